@@ -1,0 +1,4 @@
+pub mod Plays
+pub mod Bounds
+pub mod Prefixes
+pub mod Value
