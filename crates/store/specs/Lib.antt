@@ -1,1 +1,5 @@
 pub mod Interface
+pub mod Shown
+pub mod Slots
+pub mod Stores
+pub mod Theorems

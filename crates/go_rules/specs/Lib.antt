@@ -1,0 +1,5 @@
+pub mod Groups
+pub mod Rules
+pub mod Play
+pub mod Text
+pub mod Cases

@@ -1,0 +1,2 @@
+pub mod Shortcuts
+pub mod Theorems

@@ -1,0 +1,37 @@
+ghost use mathlib.Core.Path.{_≡_};
+ghost use lib.ListN.{length, getD};
+ghost use Rattle.point_sets.specs.Points.{has, listOf};
+
+// Whether point p is in m.
+pub fn has_point(m: u64, p: u32) -> bool
+    ensures { λ r. ⌜ r ≡ has m p ⌝ }
+{
+    p < 64 && (m >> p) & 1 == 1
+}
+
+// The number of the points of m below size.
+pub fn count_points(m: u64, size: u32) -> u32
+    ensures { λ r. ⌜ r ≡ length (listOf size (has m)) ⌝ }
+{
+    if size < 64 {
+        (m & ((1 << size) - 1)).count_ones()
+    } else {
+        m.count_ones()
+    }
+}
+
+// Point number k of the points of m below size, or 0 where there are no more than k.
+pub fn nth_point(m: u64, size: u32, k: u32) -> u32
+    ensures { λ r. ⌜ r ≡ getD (listOf size (has m)) k 0 ⌝ }
+{
+    let mut left = k;
+    for p in 0..size {
+        if has_point(m, p) {
+            if left == 0 {
+                return p;
+            }
+            left -= 1;
+        }
+    }
+    0
+}

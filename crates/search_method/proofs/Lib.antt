@@ -1,0 +1,9 @@
+pub mod Runs
+pub mod Good
+pub mod Rows
+pub mod Parts
+pub mod Progress
+pub mod Evaluation
+pub mod Expansion
+pub mod Truth
+pub mod Bound
