@@ -4,11 +4,12 @@ use mathlib.Core.List.{List, [], _∷_, _++_, append-assoc, append-nil}
 use mathlib.Core.Path.{_≡_, refl, sym, ap, subst, _∙_}
 use Prim.Native.Nat.{ℕ, suc, _+_, _-_, _/_, _^_, _<_, _≤_}
 use native.Mathlib.Omega.{arith}
+use lib.Chars.{codes}
 use lib.ListN.{length, replicate, set, length-append}
 use Rattle.std.proofs.shelf.Decimals.{decimal-step, length-decimal-le}
 use Rattle.std.specs.Written.{decimal}
 use Rattle.card_line.specs.declared.line.Line.{Line}
-use Rattle.card_line.specs.Lines.{lined, verdictWord}
+use Rattle.card_line.specs.Lines.{Fits, claimText, costText, entry, lined, verdictWord}
 use Rattle.card_line.specs.Written.{Appends, LineIs}
 
 set-at-end : (t : List ℕ) (n b : ℕ) → set (t ++ replicate (suc n) 0) (length t) b ≡ (t ++ b ∷ []) ++ replicate n 0
@@ -59,3 +60,21 @@ claim-line l₀ l₁ l₂ l₃ l₄ a b c d is h₁ h₂ h₃ h₄ = h₄ .text 
 
 pub cost-line : (l₀ l₁ l₂ : Line) (a b : List ℕ) → Appends l₀ a l₁ → Appends l₁ b l₂ → (text : List ℕ) → LineIs l₀ text → l₂ .bytes ≡ lined (text ++ (a ++ b))
 cost-line l₀ l₁ l₂ a b h₁ h₂ text is = appends-then l₀ l₁ l₂ a b h₁ h₂ .text text is .bytes-are
+
+pub fits : Fits
+fits card floor bytes plays said c f b p =
+    let head = entry "card " card in
+    let least = entry ": at least " floor in
+    omega (
+      arith,
+      room32 card c,
+      room8 floor f,
+      room64 bytes b,
+      room32 plays p,
+      word-room said,
+      length-append (claimText card floor said) (costText bytes plays),
+      length-append (head ++ least ++ codes " ") (verdictWord said),
+      length-append (head ++ least) (codes " "),
+      length-append head least,
+      length-append (entry ", bytes " bytes) (entry ", plays " plays),
+    )

@@ -1,8 +1,7 @@
 -- A line of 80 bytes: a text, and zeros after it.
 use mathlib.Core.Bool.{Bool, cond}
-use mathlib.Core.List.{List, [], _∷_, _++_}
-use mathlib.Core.Path.{_≡_}
-use Prim.Native.Nat.{ℕ, _-_}
+use mathlib.Core.List.{List, _++_}
+use Prim.Native.Nat.{ℕ, _-_, _^_, _<_, _≤_}
 use Prim.Native.String.{String}
 use lib.Chars.{codes}
 use lib.ListN.{length, replicate}
@@ -16,6 +15,7 @@ lined text = text ++ replicate (80 - length text) 0
 abbrev pub entry : String → ℕ → List ℕ
 entry label n = codes label ++ decimal n
 
+-- the word for a verdict
 abbrev pub verdictWord : Bool → List ℕ
 verdictWord said = cond said (codes "yes") (codes "no")
 
@@ -30,3 +30,7 @@ costText bytes plays = entry ", bytes " bytes ++ entry ", plays " plays
 -- the text of a card, as `card 1: at least 2 yes, bytes 3, plays 1`
 abbrev pub cardText : ℕ → ℕ → Bool → ℕ → ℕ → List ℕ
 cardText card floor said bytes plays = claimText card floor said ++ costText bytes plays
+
+-- however wide its numbers are, the text of a card leaves room in the line
+abbrev pub Fits : Type 0
+Fits = (card floor bytes plays : ℕ) (said : Bool) → card < 2 ^ 32 → floor < 2 ^ 8 → bytes < 2 ^ 64 → plays < 2 ^ 32 → length (cardText card floor said bytes plays) ≤ 79

@@ -1,11 +1,14 @@
 // The line of a card: 80 bytes, as `card 1: at least 2 yes, bytes 3, plays 1` and zeros after it.
 //
-// `card_line` writes it from plain values. Whatever they are, the text takes at most 79 bytes, so there is always room.
+// `print_card` prints it from a checked proof and from nothing else. The text takes at most 79 bytes, so there is always
+// room.
 ghost use Prim.Native.Nat.{_≤_};
-ghost use Rattle.card_line.specs.Lines.{cardText, claimText, lined, verdictWord};
+ghost use Rattle.card_line.specs.Lines.{Fits, cardText, claimText, lined, verdictWord};
 ghost use Rattle.card_line.specs.Written.{LineIs};
+ghost use Rattle.proof_file.specs.Faults.{proofOf};
 ghost use mathlib.Core.Path.{_≡_};
 use crate::line::Line;
+use proof_file::check::CheckedProof;
 
 mod line;
 
@@ -49,10 +52,21 @@ fn with_cost(claim: Line, card: Card) -> [u8; 80]
     line.bytes
 }
 
-// The line of a card whose proof, of so many bytes and plays, says whether the score is at least the floor.
-pub fn card_line(card: u32, floor: u8, yes: bool, bytes: usize, plays: u32) -> [u8; 80]
-    ensures { λ r. ⌜ r ≡ lined (cardText card floor yes bytes plays) ⌝ }
+// Prints the card's line into `out`, zeros after it, and uses the checked proof up: another line needs another check.
+pub fn print_card(proof: CheckedProof, card: u32, out: &mut [u8; 80])
+    ensures { λ _. ⌜ now (out .exit) ≡ lined (cardText card (proofOf proof .floor) (proofOf proof .yes) (proofOf proof .size) (proofOf proof .plays)) ⌝ }
 {
-    let card = Card { number: card, floor, yes, bytes, plays };
-    with_cost(claim(card), card)
+    let card = Card {
+        number: card,
+        floor: proof.floor(),
+        yes: proof.yes(),
+        bytes: proof.length(),
+        plays: proof.plays(),
+    };
+    *out = with_cost(claim(card), card);
 }
+
+// However wide its numbers are, the text of a card fits.
+pub fn every_card_fits()
+    ensures { λ _. ⌜ Fits ⌝ }
+{}

@@ -33,6 +33,9 @@ pub(crate) struct Card<'a> {
     pub(crate) budget: u32,
     pub(crate) line: Vec<u32>,
     pub(crate) posted: Posted<'a>,
+    // the fields of `slots=` and `proof=`, 1 where they do not stand
+    pub(crate) slots_field: u32,
+    pub(crate) proof_field: u32,
 }
 
 // Why a field makes the line no card.
@@ -44,6 +47,7 @@ pub(crate) enum Why {
     NotHex,
     Twice,
     NoMemory,
+    NoFile,
 }
 
 impl From<AllocError> for Why as WhyFromAlloc {
@@ -67,6 +71,7 @@ impl Why {
             Why::NotHex => "not pairs of hexadecimal digits",
             Why::Twice => "a word that stood before",
             Why::NoMemory => "no memory for it",
+            Why::NoFile => "no such file can be read",
         }
     }
 }
@@ -298,6 +303,8 @@ pub(crate) fn card_of(heap: Global, text: &[u8]) -> Result<Card<'_>, NotCard> {
         budget: 50_000_000,
         line: Vec::new(heap),
         posted: Posted::Nothing,
+        slots_field: 1,
+        proof_field: 1,
     };
     let mut seen = Seen {
         repeat: false,
@@ -319,6 +326,12 @@ pub(crate) fn card_of(heap: Global, text: &[u8]) -> Result<Card<'_>, NotCard> {
         field = field.saturating_add(1);
         if let Err(why) = take_word(heap, &mut card, &mut seen, word) {
             return Err(NotCard { field, why });
+        }
+        if seen.slots && card.slots_field == 1 {
+            card.slots_field = field;
+        }
+        if seen.proof && card.proof_field == 1 {
+            card.proof_field = field;
         }
         rest = trimmed(more);
     }

@@ -32,7 +32,10 @@ fn joined(byte: u8, above: Spelled) -> Option<Spelled>
     if above.value == 0 {
         return None;
     }
-    Some(Spelled { value: (byte as u64 - 128) + 128 * above.value, end: above.end })
+    Some(Spelled {
+        value: (byte as u64 - 128) + 128 * above.value,
+        end: above.end,
+    })
 }
 
 // The number of at most `most` bytes at a place, whatever its size.
@@ -46,7 +49,10 @@ fn digits(bytes: &[u8], at: usize, most: u32) -> Option<Spelled>
     }
     let byte = bytes[at];
     if byte < 128 {
-        return Some(Spelled { value: byte as u64, end: at + 1 });
+        return Some(Spelled {
+            value: byte as u64,
+            end: at + 1,
+        });
     }
     let above = digits(bytes, at + 1, most - 1)?;
     joined(byte, above)
@@ -58,7 +64,10 @@ pub fn read_number(bytes: &[u8], at: usize) -> Option<Number>
 {
     let number = digits(bytes, at, 5)?;
     if number.value < 0x1_0000_0000 {
-        Some(Number { value: number.value as u32, end: number.end })
+        Some(Number {
+            value: number.value as u32,
+            end: number.end,
+        })
     } else {
         None
     }
@@ -91,8 +100,6 @@ pub fn put_number(bytes: &mut [u8], at: usize, n: u32) -> Option<usize>
 }
 
 // The form of a number is unique, and reading gives the number back.
-pub fn numbers_are_faithful() -> u8
+pub fn numbers_are_faithful()
     ensures { λ _. ⌜ Faithful ⌝ }
-{
-    0
-}
+{}

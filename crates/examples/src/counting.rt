@@ -16,7 +16,11 @@ impl<S> Counting<S> {
     pub fn new(below: S) -> Self
         ensures { λ r. ⌜ r ≡ record { below = below; recorded = 0; cleared = 0 } ⌝ }
     {
-        Counting { below, recorded: 0, cleared: 0 }
+        Counting {
+            below,
+            recorded: 0,
+            cleared: 0,
+        }
     }
 }
 

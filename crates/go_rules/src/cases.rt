@@ -2,8 +2,6 @@
 ghost use Rattle.go_rules.specs.Cases.{CornerCase};
 
 // The worked position is as its definition says.
-pub fn corner_case() -> u8
+pub fn corner_case()
     ensures { λ _. ⌜ CornerCase ⌝ }
-{
-    0
-}
+{}

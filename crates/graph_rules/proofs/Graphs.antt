@@ -37,7 +37,7 @@ good-head : (b : Bool) (r : Option ℕ) (i : ℕ) → cond b r (Some i) ≡ None
 good-head true r i e = (refl, e)
 good-head false r i e = let z : _≡_ {A = ℕ} 0 1 = cc in absurd (omega arith)
 
-all-good : (size : ℕ) (ns : List Node) (i : ℕ) (d : Node) → firstBad size i ns ≡ None → (j : ℕ) → j < length ns → nodeGood size (getD ns j d) ≡ true
+pub all-good : (size : ℕ) (ns : List Node) (i : ℕ) (d : Node) → firstBad size i ns ≡ None → (j : ℕ) → j < length ns → nodeGood size (getD ns j d) ≡ true
 all-good size [] i d e j h = absurd (omega arith)
 all-good size (n ∷ ns) i d e zero h = good-head (nodeGood size n) _ i e .0
 all-good size (n ∷ ns) i d e (suc j) h = all-good size ns (i + 1) d (good-head (nodeGood size n) _ i e .1) j (omega arith)

@@ -1,12 +1,12 @@
--- What a direct-mapped table remembers, in words that name no step of the program.
+-- What a direct-mapped table remembers, and what a rotation is, in words that name no step of the program.
 use mathlib.Core.Path.{_≡_}
-use Prim.Native.Nat.{ℕ, _<_}
+use Prim.Native.Nat.{ℕ, _+_, _-_, _*_, _^_, _<_, _≤_}
 use denote.Ref.{now}
 use lib.ListN.{length}
 use Rattle.std.specs.declared.option.Option.the-variants.{None, Some}
 use Rattle.store.specs.declared.table.Table.{Table}
 use Rattle.store.specs.Interface.{Entry, Key}
-use Rattle.store.specs.Slots.{slotOf}
+use Rattle.store.specs.Slots.{rotated, slotOf}
 use Rattle.store.specs.Stores.{tableStore}
 
 -- the number of slots of a table, and the slot of a key in it
@@ -29,3 +29,7 @@ pub record DirectMapped : Type 0 where
   -- no call changes the number of slots
   pub recording-keeps-slots : (s t : Table) (e : Entry) → tableStore .records s e t → slots t ≡ slots s
   pub clearing-keeps-slots : (s t : Table) → tableStore .clears s t → slots t ≡ slots s
+
+-- rotating a word left by n moves its n highest bits below the others
+abbrev pub Rotates : Type 0
+Rotates = (n high low : ℕ) → n ≤ 64 → high < 2 ^ n → low < 2 ^ (64 - n) → rotated n (high * 2 ^ (64 - n) + low) ≡ low * 2 ^ n + high

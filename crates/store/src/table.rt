@@ -36,9 +36,7 @@ fn matching(slot: Option<Entry>, key: Key) -> Option<Entry>
     ensures { λ r. ⌜ r ≡ shownBy slot key ⌝ }
 {
     match slot {
-        Some(entry) => {
-            if entry.key == key { Some(entry) } else { None }
-        }
+        Some(entry) => { if entry.key == key { Some(entry) } else { None } }
         None => None,
     }
 }

@@ -21,15 +21,29 @@ mod tests {
 
     fn open(a: u64, b: u64, context: u64, floor: u8) -> Entry {
         Entry {
-            key: Key { a, b, context, floor },
+            key: Key {
+                a,
+                b,
+                context,
+                floor,
+            },
             finding: Finding::Open { pn: 3, dn: 4 },
         }
     }
 
     fn settled(a: u64, b: u64, context: u64, floor: u8) -> Entry {
         Entry {
-            key: Key { a, b, context, floor },
-            finding: Finding::Verdict { yes: true, independent: false, best: 7 },
+            key: Key {
+                a,
+                b,
+                context,
+                floor,
+            },
+            finding: Finding::Verdict {
+                yes: true,
+                independent: false,
+                best: 7,
+            },
         }
     }
 
@@ -119,7 +133,10 @@ mod tests {
         check_eq(table.probe(five.key), None)?;
         check_eq(table.probe(twelve.key), Some(twelve))?;
         check_eq(table.probe(eight.key), Some(eight))?;
-        check_eq(row, [None, Some(eight), None, None, None, Some(twelve), None])
+        check_eq(
+            row,
+            [None, Some(eight), None, None, None, Some(twelve), None],
+        )
     }
 
     #[test]
@@ -168,13 +185,26 @@ mod tests {
         table.record(open(0, 0x800_0000_0000, 0, 0));
         table.record(open(2, 0, 0x20_0000, 0));
         table.record(open(0, 0, 0, 2));
-        table.record(open(0x0123_4567_89ab_cdef, 0xfedc_ba98_7654_3210, 0x0f1e_2d3c_4b5a_6978, 2));
+        table.record(open(
+            0x0123_4567_89ab_cdef,
+            0xfedc_ba98_7654_3210,
+            0x0f1e_2d3c_4b5a_6978,
+            2,
+        ));
         check_eq(row[52], Some(open(0, 1, 0, 0)))?;
         check_eq(row[48], Some(open(0, 0, 1, 0)))?;
         check_eq(row[1], Some(open(0, 0x800_0000_0000, 0, 0)))?;
         check_eq(row[3], Some(open(2, 0, 0x20_0000, 0)))?;
         check_eq(row[2], Some(open(0, 0, 0, 2)))?;
-        check_eq(row[15], Some(open(0x0123_4567_89ab_cdef, 0xfedc_ba98_7654_3210, 0x0f1e_2d3c_4b5a_6978, 2)))?;
+        check_eq(
+            row[15],
+            Some(open(
+                0x0123_4567_89ab_cdef,
+                0xfedc_ba98_7654_3210,
+                0x0f1e_2d3c_4b5a_6978,
+                2,
+            )),
+        )?;
         check_eq(filled(&row), 6)
     }
 }
