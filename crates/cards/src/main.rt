@@ -1,10 +1,15 @@
-// Reads a batch of cards, one a line, and prints what each comes to.
+// Reads a batch of cards, one a line, and prints what each comes to: its position is solved, a proof is written, and the
+// card's line is printed from the proof once it is checked. docs/CARDS.md has the input and the output.
 mod card;
 mod input;
 mod options;
-mod position;
+mod settle;
 mod show;
 
+use card::Card;
+use card::NotCard;
+use card::Posted;
+use card::Why;
 use card::card_of;
 use card::is_card;
 use input::all_bytes;
@@ -12,13 +17,18 @@ use input::cut_line;
 use input::without_return;
 use options::Options;
 use options::read_options;
-use position::Seen;
-use position::see;
+use search_method::kinds::Answer;
+use settle::Outcome;
+use settle::Settled;
+use settle::settle_card;
 use show::Shown;
 use show::board_row;
+use show::hex;
 use show::refused;
 use show::standing;
+use show::text_of_line;
 use std::error::AnyError;
+use std::fs;
 use std::io;
 
 // How many cards were printed, and how many were not.
@@ -35,29 +45,89 @@ fn print_board(rt: &LibcRuntime, s: Shown) -> io::Result<()> {
     rt.println(standing(rt.alloc(), s)?)
 }
 
-// One card: what it comes to, in a line and, unless quiet, some more. True where it was not refused.
+fn print_answer(rt: &LibcRuntime, answer: Answer) -> io::Result<()> {
+    match answer {
+        Answer::Solved { yes, best, count } => {
+            let word = if yes { "yes" } else { "no" };
+            println!(rt, "  solved {word}, move {best}, plays {count}")
+        }
+        Answer::OutOfBudget { count } => println!(rt, "  out of budget, plays {count}"),
+    }
+}
+
+// The card's line and, unless quiet, what was found on the way to it.
+fn print_settled(rt: &LibcRuntime, o: &Options, number: u32, s: &Settled) -> io::Result<()> {
+    rt.println(text_of_line(rt.alloc(), &s.line)?)?;
+    if let Some(folder) = &o.out {
+        let folder = folder.as_str();
+        let name = format!(rt.alloc(), "{folder}/card-{number}.proof")?;
+        fs::write(rt, name.as_str(), s.proof.as_slice())?;
+    }
+    if o.quiet {
+        return Ok(());
+    }
+    print_board(rt, s.shown)?;
+    if let Some(answer) = s.solved {
+        print_answer(rt, answer)?;
+    }
+    let digits = hex(rt.alloc(), s.proof.as_slice())?;
+    println!(rt, "  proof {digits}")
+}
+
+fn print_not_card(rt: &LibcRuntime, number: u32, bad: NotCard) -> io::Result<()> {
+    let field = bad.field;
+    let why = bad.why.words();
+    println!(rt, "card {number}: not a card, field {field}: {why}")
+}
+
+// The bytes of a proof that was posted with the card.
+fn posted_bytes(rt: &LibcRuntime, card: &mut Card) -> Result<Option<Vec<u8>>, NotCard> {
+    let field = card.proof_field;
+    match std::mem::replace(&mut card.posted, Posted::Nothing) {
+        Posted::Nothing => Ok(None),
+        Posted::Bytes(bytes) => Ok(Some(bytes)),
+        Posted::File(name) => {
+            let Ok(name) = std::str::from_utf8(name) else {
+                return Err(NotCard { field, why: Why::NoFile });
+            };
+            match fs::read(rt, name) {
+                Ok(bytes) => Ok(Some(bytes)),
+                Err(_) => Err(NotCard { field, why: Why::NoFile }),
+            }
+        }
+    }
+}
+
+// One card: what it comes to, in a line and, unless quiet, some more. True where its line was printed.
 fn do_card(rt: &LibcRuntime, o: &Options, number: u32, line: &[u8]) -> io::Result<bool> {
     let heap = rt.alloc();
-    let card = match card_of(heap, line) {
+    let mut card = match card_of(heap, line) {
         Ok(card) => card,
         Err(bad) => {
-            let field = bad.field;
-            let why = bad.why.words();
-            println!(rt, "card {number}: not a card, field {field}: {why}")?;
+            print_not_card(rt, number, bad)?;
             return Ok(false);
         }
     };
-    match see(&card) {
-        Seen::Refused(told) => {
+    let posted = match posted_bytes(rt, &mut card) {
+        Ok(posted) => posted,
+        Err(bad) => {
+            print_not_card(rt, number, bad)?;
+            return Ok(false);
+        }
+    };
+    match settle_card(heap, &card, number, posted) {
+        Ok(Outcome::Refused(told)) => {
             rt.println(refused(heap, number, told)?)?;
             Ok(false)
         }
-        Seen::At(s) => {
-            println!(rt, "card {number}: a position")?;
-            if !o.quiet {
-                print_board(rt, s)?;
-            }
+        Ok(Outcome::Settled(settled)) => {
+            print_settled(rt, o, number, &settled)?;
             Ok(true)
+        }
+        Err(_) => {
+            let field = card.slots_field;
+            print_not_card(rt, number, NotCard { field, why: Why::NoMemory })?;
+            Ok(false)
         }
     }
 }
@@ -84,7 +154,7 @@ fn do_batch(rt: &LibcRuntime, o: &Options, text: &[u8]) -> io::Result<Tally> {
     Ok(tally)
 }
 
-fn work(rt: &LibcRuntime) -> Result<(), AnyError> {
+fn run_batch(rt: &LibcRuntime) -> Result<(), AnyError> {
     let o = read_options(rt)?;
     let text = all_bytes(rt, &o.file)?;
     let tally = do_batch(rt, &o, text.as_slice())?;
@@ -96,5 +166,5 @@ fn work(rt: &LibcRuntime) -> Result<(), AnyError> {
 }
 
 fn main(rt: LibcRuntime) -> Result<(), AnyError> {
-    rt.report(work(&rt))
+    rt.report(run_batch(&rt))
 }

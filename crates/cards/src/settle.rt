@@ -25,7 +25,7 @@ use layers::repeat::RepeatLayer;
 use proof_file::check::CheckedProof;
 use proof_file::check::check;
 use proof_file::fault::Fault;
-use proof_writer::write::WriteRefusal;
+use proof_writer::refusal::WriteRefusal;
 use proof_writer::write::write;
 use search::memory::LineRecord;
 use search::solve::solve;

@@ -125,3 +125,32 @@ pub(crate) fn refused(heap: Global, card: u32, told: Told) -> Result<String, All
     text.push_str(words(number))?;
     Ok(text)
 }
+
+fn hex_digit(n: u8) -> char {
+    match n {
+        0..=9 => char::from(b'0' + n),
+        10..=15 => char::from(b'a' + (n - 10)),
+        _ => '?',
+    }
+}
+
+// Bytes as pairs of hexadecimal digits.
+pub(crate) fn hex(heap: Global, bytes: &[u8]) -> Result<String, AllocError> {
+    let mut text = String::new(heap);
+    for b in bytes {
+        text.push(hex_digit(*b / 16))?;
+        text.push(hex_digit(*b % 16))?;
+    }
+    Ok(text)
+}
+
+// The text of a card's line, without the zeros after it.
+pub(crate) fn text_of_line(heap: Global, line: &[u8; 80]) -> Result<String, AllocError> {
+    let mut text = String::new(heap);
+    for b in line {
+        if *b != 0 {
+            text.push(char::from(*b))?;
+        }
+    }
+    Ok(text)
+}
