@@ -17,6 +17,7 @@ use game::refusal::PositionRefusal;
 use game::refusal::Refusal;
 use go_rules::board::Board;
 use go_rules::place::Place;
+use go_rules::text::Opening;
 use go_rules::text::read_position;
 use go_rules::turn::empty_count;
 use go_rules::turn::place_after;
@@ -68,13 +69,23 @@ impl AtariGo {
         ensures made { λ r. ⌜ elim r [ Ok g ↦ (atariGo (g .board .n) (g .start) ≡ gameOf (now (text .entry))) × (lineOf (g .numbers) (g .played) ≡ []) | Err e ↦ Unit {0} ] ⌝ }
     {
         let opening = read_position(text)?;
-        Ok(AtariGo {
+        Ok(AtariGo::opened(opening))
+    }
+
+    // The game at the empty line.
+    fn opened(opening: Opening) -> AtariGo
+        requires { ⌜ Position (opening .board .n) (opening .place) ⌝ }
+        ensures board { λ r. ⌜ r .board .n ≡ opening .board .n ⌝ }
+        ensures start { λ r. ⌜ r .start ≡ opening .place ⌝ }
+        ensures line { λ r. ⌜ lineOf (r .numbers) (r .played) ≡ [] ⌝ }
+    {
+        AtariGo {
             board: opening.board,
             start: opening.place,
             stood: [opening.place; 97],
             numbers: [0; 96],
             played: 0,
-        })
+        }
     }
 
     // The position of the present line.

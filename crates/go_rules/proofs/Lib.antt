@@ -6,3 +6,4 @@ pub mod Liberties
 pub mod Laws
 pub mod Texts
 pub mod Walks
+pub mod Rulebook

@@ -7,13 +7,13 @@ use native.Mathlib.Omega.{arith}
 use lib.Dec.{eqb}
 use lib.Bits.{bitOr, or-lt}
 use Rattle.std.specs.Orderings.{Decides}
-use Rattle.std.proofs.shelf.Bits.{pow-below}
+use Rattle.std.proofs.shelf.Bits.{pow-below, pow-pos}
 use Rattle.std.proofs.shelf.Ways.{decides-or}
 use Rattle.std.proofs.shelf.Tests.{cases-bool, cases-lt, true≢false, and-parts, and-from, eqb-true, eq-eqb, ne-eqb}
 use Rattle.point_sets.specs.Points.{has, setOf}
 use Rattle.go_rules.specs.Groups.{Neighbours, Joined, here, step, around, reach, OnBoard, Chained}
-use Rattle.go_rules.specs.Rules.{freeOf, HasLiberty, living, Living, allLive, with-stone, leavesOne, takesLast, mayFill, legal, moveSet, Takes, LegalMove, Moves}
-use Rattle.point_sets.proofs.Sets.{has-set, has-inside, has-zero, has-or, set-lt, same-set, cases-differ}
+use Rattle.go_rules.specs.Rules.{freeOf, HasLiberty, living, Living, allLive, groupOf, libertiesOf, Group, Liberties, with-stone, leavesOne, takesLast, mayFill, legal, moveSet, Takes, LegalMove, Moves}
+use Rattle.point_sets.proofs.Sets.{has-set, has-inside, has-zero, has-and, has-or, has-pow, set-lt, same-set, cases-differ}
 use Rattle.go_rules.proofs.Chains.{around-from, around-to, reach-chained, starts}
 use Rattle.go_rules.proofs.Reach.{reach-le}
 use native.Mathlib.Nat.{lt-of-le-of-lt}
@@ -66,7 +66,7 @@ module _ (n : ℕ) (low : 3 ≤ n) (high : n ≤ 7) where
   own-stone : (s f p : ℕ) → OnBoard n s → HasLiberty n s f p → has s p ≡ true
   own-stone s f p on h = starts n low high s f on p (h .stone) (h .joined)
 
-free-on : (n s t : ℕ) → OnBoard n (freeOf n s t)
+pub free-on : (n s t : ℕ) → OnBoard n (freeOf n s t)
 unfolding freeOf
 free-on n s t = set-lt (n * n) _
 
@@ -144,6 +144,21 @@ module _ (n : ℕ) (low : 3 ≤ n) (high : n ≤ 7) (own foe : ℕ) (on-own : On
             ])),
       )
 
+  -- each group of the side on turn has a liberty, or one has none
+  pub alive-or-not :
+      ((q : ℕ) → has own q ≡ true → HasLiberty n own (freeOf n own foe) q)
+      ⊎ ((q : ℕ) × (has own q ≡ true) × (HasLiberty n own (freeOf n own foe) q → ⊥))
+  alive-or-not =
+      let live = living n own (freeOf n own foe) in
+      let is = living-is n low high own (freeOf n own foe) on-own (free-on n own foe) in
+      elim (cases-differ (n * n) live own) [
+        | inl same ↦ inl (λ q h. is q .0 (same q (has-inside (n * n) own q on-own h) ∙ h))
+        | inr d ↦ elim (d .2) [
+          | inl x ↦ absurd (true≢false (sym (own-stone n low high own (freeOf n own foe) (d .0) on-own (is (d .0) .0 (x .0))) ∙ x .1))
+          | inr x ↦ inr (d .0, x .1, λ h. true≢false (sym (is (d .0) .1 h) ∙ x .0))
+        ]
+      ]
+
   legal-is : (p : ℕ) → p < n * n → Decides (legal n own foe p) (LegalMove n own foe p)
   unfolding legal mayFill
   legal-is p h =
@@ -174,3 +189,42 @@ module _ (n : ℕ) (low : 3 ≤ n) (high : n ≤ 7) (own foe : ℕ) (on-own : On
               λ m. absurd (true≢false (sym (all-live .1 (m .0)) ∙ t)),
             )
       ]
+
+-- the group of one point, and its liberties
+module _ (n : ℕ) (low : 3 ≤ n) (high : n ≤ 7) (s p : ℕ) (on : OnBoard n s) where
+  pub group-is : Group n s p (groupOf n s p)
+  group-is q =
+      elim (cases-bool (has s p)) [
+        | inl t ↦
+            let is = ap (λ b. cond b (reach n s (2 ^ p)) 0) t in
+            let chained = reach-chained n low high s (2 ^ p) on q in (
+              λ e.
+                  let j = chained .0 (ap (λ (m : ℕ). has m q) (sym is) ∙ e) in
+                  subst (λ (x : ℕ). Joined n s x q) (eqb-true (j .0) p (sym (has-pow p (j .0)) ∙ j .1)) (j .2),
+              λ j. ap (λ (m : ℕ). has m q) is ∙ chained .1 (p, has-pow p p ∙ eq-eqb p p refl, j),
+            )
+        | inr t ↦
+            let is = ap (λ b. cond b (reach n s (2 ^ p)) 0) t in (
+              λ e. absurd (true≢false (sym e ∙ ap (λ (m : ℕ). has m q) is ∙ has-zero q)),
+              λ j. absurd (true≢false (sym (starts n low high s (2 ^ p) on p q j) ∙ t)),
+            )
+      ]
+
+  group-on : OnBoard n (groupOf n s p)
+  group-on =
+      elim (cases-bool (has s p)) [
+        | inl t ↦
+            subst (OnBoard n) (sym (ap (λ b. cond b (reach n s (2 ^ p)) 0) t)) (lt-of-le-of-lt (reach-le n s (2 ^ p)) on)
+        | inr t ↦ subst (OnBoard n) (sym (ap (λ b. cond b (reach n s (2 ^ p)) 0) t)) (pow-pos (n * n))
+      ]
+
+  pub liberties-are : (f : ℕ) → Liberties n s f p (libertiesOf n s f p)
+  liberties-are f q =
+      let g = groupOf n s p in (
+        λ e.
+            let x = and-parts _ _ (sym (has-and f (around n g) q) ∙ e) in
+            let b = around-from n low high g q group-on (x .1) in
+            (x .0, (b .0, group-is (b .0) .0 (b .1), b .2)),
+        λ l.
+            has-and f (around n g) q ∙ and-from _ _ (l .0) (around-to n low high g q (l .1 .0) (group-is (l .1 .0) .1 (l .1 .1)) (l .1 .2)),
+      )

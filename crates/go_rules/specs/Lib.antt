@@ -3,3 +3,4 @@ pub mod Rules
 pub mod Play
 pub mod Text
 pub mod Cases
+pub mod Rulebook

@@ -4,7 +4,7 @@ use mathlib.Core.Logic.{_⊎_}
 use mathlib.Core.Bool.{Bool, true, false, cond, not, _&&_, _||_}
 use Prim.Native.Nat.{ℕ, _+_, _*_, _^_, _<_}
 use lib.Dec.{eqb}
-use lib.Bits.{bitOr}
+use lib.Bits.{bitAnd, bitOr}
 use Rattle.std.specs.Orderings.{Decides}
 use Rattle.point_sets.specs.Points.{has, setOf}
 use Rattle.go_rules.specs.Groups.{Neighbours, Joined, around, reach}
@@ -28,6 +28,23 @@ living n s f = reach n s (around n f)
 -- r is the set of the stones of s whose groups have a liberty
 abbrev pub Living : ℕ → ℕ → ℕ → ℕ → Type 0
 Living n s f r = (p : ℕ) → Decides (has r p) (HasLiberty n s f p)
+
+-- the group of the stone on p among the stones s; empty where there is no stone on p
+abbrev pub groupOf : ℕ → ℕ → ℕ → ℕ
+groupOf n s p = cond (has s p) (reach n s (2 ^ p)) 0
+
+-- the liberties of that group, where the points of f are free
+abbrev pub libertiesOf : ℕ → ℕ → ℕ → ℕ → ℕ
+libertiesOf n s f p = bitAnd f (around n (groupOf n s p))
+
+-- r is the set of the stones of s that a chain joins to p
+abbrev pub Group : ℕ → ℕ → ℕ → ℕ → Type 0
+Group n s p r = (q : ℕ) → Decides (has r q) (Joined n s p q)
+
+-- r is the set of the free points beside a stone that a chain joins to p
+abbrev pub Liberties : ℕ → ℕ → ℕ → ℕ → ℕ → Type 0
+Liberties n s f p r =
+    (q : ℕ) → Decides (has r q) ((has f q ≡ true) × ((stone : ℕ) × Joined n s p stone × Neighbours n stone q))
 
 -- every group of s, beside the stones t, has a liberty
 unfoldable pub allLive : ℕ → ℕ → ℕ → Bool

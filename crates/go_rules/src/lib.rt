@@ -9,4 +9,5 @@ pub mod cases;
 pub mod place;
 pub mod rules;
 pub mod text;
+pub mod theorems;
 pub mod turn;

@@ -5,7 +5,7 @@ ghost use lib.Bits.{bitAnd};
 ghost use Prim.Native.Nat.{ℕ, _+_, _*_, _^_, _<_, _≤_};
 ghost use Rattle.point_sets.specs.Points.{has};
 ghost use Rattle.go_rules.specs.Groups.{around, reach, OnBoard};
-ghost use Rattle.go_rules.specs.Rules.{freeOf, living, Living, mayFill, legal, moveSet, Moves};
+ghost use Rattle.go_rules.specs.Rules.{freeOf, living, Living, groupOf, libertiesOf, Group, Liberties, mayFill, legal, moveSet, Moves};
 use crate::board::Board;
 use point_sets::points::has_point;
 
@@ -25,6 +25,26 @@ pub fn living_stones(board: &Board, s: u64, free: u64) -> u64
     board.reach(s, board.around(free))
 }
 
+// The group of the stone on p among the stones s; empty where there is no stone on p.
+pub fn group_of(board: &Board, s: u64, p: u32) -> u64
+    ensures is { λ r. ⌜ r ≡ groupOf (now (board .entry) .n) s p ⌝ }
+    ensures joined { λ r. ⌜ (OnBoard (now (board .entry) .n) s → Group (now (board .entry) .n) s p r) ⌝ }
+{
+    if has_point(s, p) {
+        board.reach(s, 1 << p)
+    } else {
+        0
+    }
+}
+
+// The liberties of the group of p among the stones s, where the points of free are empty.
+pub fn liberties_of(board: &Board, s: u64, free: u64, p: u32) -> u64
+    ensures is { λ r. ⌜ r ≡ libertiesOf (now (board .entry) .n) s free p ⌝ }
+    ensures beside { λ r. ⌜ (OnBoard (now (board .entry) .n) s → Liberties (now (board .entry) .n) s free p r) ⌝ }
+{
+    free & board.around(group_of(board, s, p))
+}
+
 // Whether a stone on p leaves its own group a liberty or takes an enemy group's last; `before` are the enemy stones that have one now.
 fn may_fill(board: &Board, own: u64, foe: u64, before: u64, p: u32) -> bool
     requires { ⌜ p < 64 ⌝ }
@@ -37,15 +57,7 @@ fn may_fill(board: &Board, own: u64, foe: u64, before: u64, p: u32) -> bool
 }
 
 // Whether p is a legal move; `open` are the free points with a free neighbour, which need no look at groups.
-fn is_legal(
-    board: &Board,
-    own: u64,
-    foe: u64,
-    free: u64,
-    open: u64,
-    before: u64,
-    p: u32,
-) -> bool
+fn is_legal(board: &Board, own: u64, foe: u64, free: u64, open: u64, before: u64, p: u32) -> bool
     requires place { ⌜ p < 64 ⌝ }
     requires free { ⌜ free ≡ freeOf (now board .n) own foe ⌝ }
     requires open { ⌜ «open» ≡ bitAnd free (around (now board .n) free) ⌝ }

@@ -4,6 +4,7 @@ ghost use Prim.Native.Nat.{ℕ, _+_, _*_, _^_, _<_, _≤_};
 ghost use lib.ListN.{length, getD, drop};
 ghost use Rattle.go_rules.specs.Groups.{OnBoard};
 ghost use Rattle.go_rules.specs.Text.{fitsAt, firstUnfit, linesOf, textFault, stonesOf, sideOf, deadSet, deadPoint, readFault, Told};
+ghost use Rattle.go_rules.specs.Play.{Position};
 ghost use Rattle.std.specs.declared.result.Result.the-variants.{Ok, Err};
 ghost use Rattle.game.specs.Refusals.{refusedAt};
 use crate::board::Board;
@@ -137,6 +138,7 @@ fn side_of(text: &[u8]) -> Side
 pub fn read_position(text: &[u8]) -> Result<Opening, PositionRefusal>
     ensures answer { λ r. ⌜ refusedAt r ≡ readFault (now (text .entry)) ⌝ }
     ensures told { λ r. ⌜ elim r [ Ok o ↦ Told (now (text .entry)) (o .board .n) (o .place) | Err e ↦ Unit {0} ] ⌝ }
+    ensures placed { λ r. ⌜ elim r [ Ok o ↦ Position (o .board .n) (o .place) | Err e ↦ Unit {0} ] ⌝ }
 {
     if let Some(place) = text_fault(text) {
         return Err(PositionRefusal::OutOfForm { place });

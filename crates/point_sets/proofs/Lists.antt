@@ -152,3 +152,30 @@ nth-low f s k =
       | inl l ↦ omega (arith, member f s k l .0)
       | inr g ↦ omega (arith, getD-past (listOf s f) k 0 g)
     ]
+
+-- the place of a point is below the length
+pub place-low : (f : ℕ → Bool) (s p : ℕ) → p < s → f p ≡ true → length (listOf p f) < length (listOf s f)
+place-low f s p h e =
+    let sum : suc p + (s - suc p) ≡ s = omega arith in
+    let up = subst (λ (x : ℕ). length (listOf (suc p) f) ≤ length (listOf x f)) sum (length-mono f (suc p) (s - suc p)) in
+    omega (arith, length-in f p e, up)
+
+-- the list is in order
+pub list-ordered : (f : ℕ → Bool) (s j k : ℕ) → j < k → k < length (listOf s f) → getD (listOf s f) j 0 < getD (listOf s f) k 0
+list-ordered f zero j k h l = absurd (omega arith)
+list-ordered f (suc s) j k h l =
+    let front = λ (i : ℕ) (low : i < length (listOf s f)). getD-append-left (listOf s f) (cond (f s) (s ∷ []) []) 0 i low in
+    elim (cases-lt k (length (listOf s f))) [
+      | inl low ↦
+          let a = front j (omega arith) in
+          let b = front k low in
+          omega (arith, a, b, list-ordered f s j k h low)
+      | inr past ↦ elim (cases-bool (f s)) [
+        | inl t ↦
+            let same : length (listOf s f) ≡ k = omega (arith, length-in f s t) in
+            let a = front j (omega arith) in
+            let b : getD (listOf (suc s) f) k 0 ≡ s = ap (λ b. getD (listOf s f ++ cond b (s ∷ []) []) k 0) t ∙ getD-push (listOf s f) s 0 k same in
+            omega (arith, a, b, member f s j (omega arith) .0)
+        | inr t ↦ absurd (omega (arith, length-out f s t))
+      ]
+    ]

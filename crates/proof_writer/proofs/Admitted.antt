@@ -16,9 +16,12 @@ use Rattle.search_method.specs.Tree.{Tree, Runs}
 use Rattle.search.specs.Solve.{Answers}
 use Rattle.proof_method.proofs.Accepting.{floor-passes}
 
+abbrev due : Bool → Bool → Option ℕ
+due floor memory = cond floor (cond memory None (Some 6)) (Some 5)
+
 pub none-due : (floor lines moves : ℕ) → 1 ≤ floor → floor ≤ 2 → 97 ≤ lines → 6_208 ≤ moves → refusalDue floor lines moves ≡ None
 none-due floor lines moves low high l m =
-    ap₂ (λ (f : Bool) (o : Bool). cond f (cond o (None {A = ℕ}) (Some 6)) (Some 5)) (floor-passes floor low high)
+    ap₂ due (floor-passes floor low high)
     (ap₂ _&&_ (leb-true 97 lines l) (leb-true 6_208 moves m))
 
 pub answered : {S : Type 0} (𝓢 : StoreMeaning S) (tree : Tree Answer) (due : Option ℕ) (s t : S) (a : Answer) → due ≡ None →

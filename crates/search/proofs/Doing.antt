@@ -33,6 +33,9 @@ could-play left h = grind (arith, tells)
 pub could-not : (left : ℕ) → None ≡ cond (eqb left 0) None (Some (tt {0})) → left ≡ 0
 could-not left h = grind (arith, tells)
 
+pub kept-same : {G : Type 0} (means : G → Meaning) (line : G → Line) (g : G) → Kept means line g g
+kept-same means line g = record { same = refl; back = refl }
+
 pub kept-trans : {G : Type 0} {means : G → Meaning} {line : G → Line} {f g h : G} → Kept means line f g → Kept means line g h → Kept means line f h
 kept-trans p q = record { same = q .same ∙ p .same; back = q .back ∙ p .back }
 
@@ -57,9 +60,9 @@ module _ {S : Type 0} (𝓢 : StoreMeaning S) where
       runs-bind 𝓢 (x before) (next g) s t u (got a between) (came r after) h k
 
   -- where the first needs a play and none is left, so it is with the whole
-  pub does-spent : {A B : Type 0} (x : Part A) (g : A → Part B) (s t : S) (before after after′ : ℕ)
+  pub does-exhausted : {A B : Type 0} (x : Part A) (g : A → Part B) (s t : S) (before after after′ : ℕ)
       → Does 𝓢 x s t before None after → Does 𝓢 (x >>= g) s t before None after′
-  does-spent x g s t before after after′ h = runs-bind 𝓢 (x before) (next g) s t t exhausted exhausted h (refl, refl)
+  does-exhausted x g s t before after after′ h = runs-bind 𝓢 (x before) (next g) s t t exhausted exhausted h (refl, refl)
 
   -- a play of which there is none
   pub does-none : {A : Type 0} (x : Part A) (s : S) (before after : ℕ) → before ≡ 0 → Does 𝓢 (played x) s s before None after

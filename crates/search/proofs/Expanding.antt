@@ -26,7 +26,7 @@ use Rattle.search.specs.declared.memory.LineRecord.{LineRecord}
 use Rattle.search.specs.Does.{came, Does, Kept}
 use Rattle.search.specs.Numbers.{mine, findingOf, Costs}
 use Rattle.search.specs.Lines.{recordOf}
-use Rattle.search.proofs.Doing.{does-then, does-spent, play-more, could-play}
+use Rattle.search.proofs.Doing.{does-then, does-exhausted, play-more, could-play}
 
 -- what is recorded of a line is its outcome
 mine-black : (ps : List Pair) → mine true ps ≡ pns ps
@@ -158,13 +158,13 @@ module _ {S : Type 0} (𝓢 : StoreMeaning S) where
       }
 
   -- no play is left for what is below
-  pub turning-spent : (m : Meaning) (floor : ℕ) (l : Line) (limit : Pair) (s : S) (ps : List Pair) (before : ℕ) (s′ : S) (ps′ : List Pair) (left : ℕ)
+  pub turning-exhausted : (m : Meaning) (floor : ℕ) (l : Line) (limit : Pair) (s : S) (ps : List Pair) (before : ℕ) (s′ : S) (ps′ : List Pair) (left : ℕ)
       (t u : S) (black : Bool) (k : ℕ) (next : Pair) (after : ℕ) (e : Entry)
       → black ≡ blackMoves (m .view l) → reached limit (pairOf black ps′) ≡ false → k ≡ choiceOf black ps′ → next ≡ limitsOf black limit ps′
       → Turning m floor l limit s ps before s′ ps′ left → Moved s′ t m floor l k next left None after
       → 𝓢 .records t e u → e ≡ entry m floor l (Open (pairOf black ps′ .pn) (pairOf black ps′ .dn))
       → Settles s u m floor l limit ps before None after
-  turning-spent m floor l limit s ps before s′ ps′ left t u black k next after e side open-yet is-k is-next so-far move noted is-e =
+  turning-exhausted m floor l limit s ps before s′ ps′ left t u black k next after e side open-yet is-k is-next so-far move noted is-e =
       let not-yet : reached limit (linePair m l ps′) ≡ false = subst (λ b. reached limit (pairOf b ps′) ≡ false) side open-yet in
       let same-e : e ≡ entry m floor l (Open (linePair m l ps′ .pn) (linePair m l ps′ .dn)) =
       is-e ∙ ap (λ b. entry m floor l (Open (pairOf b ps′ .pn) (pairOf b ps′ .dn))) side in
@@ -191,9 +191,11 @@ module _ {S : Type 0} (𝓢 : StoreMeaning S) where
       subst (λ (y : Tree (Out Worked)). Runs 𝓢 y s′ u (got (record { pair = pair; finding = x }) left))
       (sym (turns-more m floor (expand m floor (movesLeft m l - 1)) f l limit ps′ left (omega arith)))
       (subst (λ b. Runs 𝓢 (either b (leave m floor l ps′)
-      (λ n′. bind (played (expand m floor (movesLeft m l - 1) (choiceOf (blackMoves (m .view l)) ps′ ∷ l) (limitsOf (blackMoves (m .view l)) limit ps′)) n′) (resume m floor (turns m floor (expand m floor (movesLeft m l - 1)) (f - 1) l limit) l ps′)) left) s′ u (got (record { pair = pair; finding = x }) left)) (sym there)
-      (u, subst (λ (y : Entry). 𝓢 .records s′ y u) same-e noted,
-      (refl, (λ i. got (record { pair = sym same-pair i; finding = sym same-x i }) left)))))
+      (λ n′. bind (played (expand m floor (movesLeft m l - 1) (choiceOf (blackMoves (m .view l)) ps′ ∷ l) (limitsOf (blackMoves (m .view l)) limit ps′)) n′) (resume m floor (turns m floor (expand m floor (movesLeft m l - 1)) (f - 1) l limit) l ps′)) left) s′ u (got (record { pair = pair; finding = x }) left)) (sym there) (
+        u,
+        subst (λ (y : Entry). 𝓢 .records s′ y u) same-e noted,
+        (refl, (λ i. got (record { pair = sym same-pair i; finding = sym same-x i }) left)),
+      )))
 
   -- no move may be left
   pub expand-ends : (s : S) (m : Meaning) (floor : ℕ) (l : Line) (limit : Pair) (before after : ℕ) → movesLeft m l ≡ 0 → Expands s s m floor l limit before None after
@@ -201,19 +203,19 @@ module _ {S : Type 0} (𝓢 : StoreMeaning S) where
       subst (λ (x : Tree (Out Worked)). Runs 𝓢 x s s exhausted) (sym (expand-end m floor (movesLeft m l) l limit before e)) (refl, refl)
 
   -- an initial evaluation, and then the turns
-  pub expand-spent : (s : S) (m : Meaning) (floor : ℕ) (l : Line) (limit : Pair) (before after : ℕ) → 0 < movesLeft m l
+  pub expand-exhausted : (s : S) (m : Meaning) (floor : ℕ) (l : Line) (limit : Pair) (before after : ℕ) → 0 < movesLeft m l
       → Does 𝓢 (evaluate m floor (movesLeft m l - 1) l) s s before None after → Expands s s m floor l limit before None after
-  expand-spent s m floor l limit before after pos look =
+  expand-exhausted s m floor l limit before after pos evaluated =
       subst (λ (x : Tree (Out Worked)). Runs 𝓢 x s s exhausted) (sym (expand-more m floor (movesLeft m l) l limit before pos))
-      (does-spent 𝓢 (evaluate m floor (movesLeft m l - 1) l) (λ ps n′. turns m floor (expand m floor (movesLeft m l - 1)) (suc n′) l limit ps n′) s s before after after look)
+      (does-exhausted 𝓢 (evaluate m floor (movesLeft m l - 1) l) (λ ps n′. turns m floor (expand m floor (movesLeft m l - 1)) (suc n′) l limit ps n′) s s before after after evaluated)
 
   pub expand-settled : (s t : S) (m n : Meaning) (floor : ℕ) (l l′ : Line) (limit : Pair) (ps : List Pair) (before between after : ℕ) (r : Option Worked)
       → 0 < movesLeft m l → n ≡ m → l′ ≡ l
       → Does 𝓢 (evaluate m floor (movesLeft m l - 1) l) s s before (Some ps) between → Settles s t n floor l′ limit ps between r after
       → Expands s t m floor l limit before r after
-  expand-settled s t m n floor l l′ limit ps before between after r pos same back look settled =
+  expand-settled s t m n floor l l′ limit ps before between after r pos same back evaluated settled =
       subst (λ (x : Tree (Out Worked)). Runs 𝓢 x s t (came r after)) (sym (expand-more m floor (movesLeft m l) l limit before pos))
-      (does-then 𝓢 (evaluate m floor (movesLeft m l - 1) l) (λ ps n′. turns m floor (expand m floor (movesLeft m l - 1)) (suc n′) l limit ps n′) s s t before between after ps r look
+      (does-then 𝓢 (evaluate m floor (movesLeft m l - 1) l) (λ ps n′. turns m floor (expand m floor (movesLeft m l - 1)) (suc n′) l limit ps n′) s s t before between after ps r evaluated
       (subst₂ (λ (m : Meaning) (l : Line). Settles s t m floor l limit ps between r after) same back settled (suc between) (omega arith)))
 
   -- a line that is not over is expanded without limits

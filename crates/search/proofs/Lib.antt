@@ -1,7 +1,7 @@
 pub mod Rows
 pub mod Doing
 pub mod Trying
-pub mod Looking
+pub mod Judging
 pub mod Smalls
 pub mod Expanding
 pub mod Solving

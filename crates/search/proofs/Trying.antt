@@ -22,7 +22,7 @@ use Rattle.search.specs.declared.simulation.Step.{Step}
 use Rattle.search.specs.declared.simulation.Step.the-variants.{Stop, One, All}
 use Rattle.search.specs.Does.{Does, Kept}
 use Rattle.search.specs.Steps.{stepWithout, stepBy, stepOf, take, onward}
-use Rattle.search.proofs.Doing.{does-then, does-spent, play-more, could-play}
+use Rattle.search.proofs.Doing.{does-then, does-exhausted, play-more, could-play}
 
 -- what a line that is not over comes to is what its step comes to
 module _ (m : Meaning) (go : Line → Part Bool) (l : Line) (v : Bool) (n : ℕ) where
@@ -145,12 +145,12 @@ module _ {S : Type 0} (𝓢 : StoreMeaning S) where
       rest-from s m floor v l moves before k left lt so-far (Some false) after
       (does-then 𝓢 (played (onward m floor v l (k ∷ l))) _ s s s left after after false (Some false) one (refl, refl))
 
-  pub trying-spent : (s : S) (m : Meaning) (floor : ℕ) (v : Bool) (l : Line) (moves before k left after : ℕ) → k < moves
+  pub trying-exhausted : (s : S) (m : Meaning) (floor : ℕ) (v : Bool) (l : Line) (moves before k left after : ℕ) → k < moves
       → Trying s m floor v l moves before k left → Tried s m floor v l k left None after
       → Tries s m floor v l 0 moves before None after
-  trying-spent s m floor v l moves before k left after lt so-far one =
+  trying-exhausted s m floor v l moves before k left after lt so-far one =
       rest-from s m floor v l moves before k left lt so-far None after
-      (does-spent 𝓢 (played (onward m floor v l (k ∷ l))) _ s s left after after one)
+      (does-exhausted 𝓢 (played (onward m floor v l (k ∷ l))) _ s s left after after one)
 
   pub trying-all : (s : S) (m : Meaning) (floor : ℕ) (v : Bool) (l : Line) (moves before k left : ℕ) → moves ≤ k
       → Trying s m floor v l moves before k left → Tries s m floor v l 0 moves before (Some true) left

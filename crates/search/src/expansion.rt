@@ -114,12 +114,24 @@ fn take_turns<G: Bounded, S: Store>(
         let pair = line_pair(line.black, pairs);
         if reaches(line.limit, pair) {
             let finding = finding_of(line.black, line.independent, pairs);
-            store.record(Entry { key: line.key, finding });
+            store.record(Entry {
+                key: line.key,
+                finding,
+            });
             return Some(Worked { pair, finding });
         }
         let k = choose_move(line.black, line.limit, pairs);
         let next = limits_of(line.black, line.limit, pairs, k);
-        let Some(found) = expand_move(game, store, line.key.floor, k as u32, next, deeper, rest, plays) else {
+        let Some(found) = expand_move(
+            game,
+            store,
+            line.key.floor,
+            k as u32,
+            next,
+            deeper,
+            rest,
+            plays,
+        ) else {
             store.record(Entry {
                 key: line.key,
                 finding: Finding::Open {

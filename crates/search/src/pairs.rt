@@ -106,7 +106,7 @@ pub(crate) fn reaches(limit: Pair, pair: Pair) -> bool
     pair.pn >= limit.pn || pair.dn >= limit.dn
 }
 
-// The move to work next: the first with the least number.
+// The move to expand next: the first with the least number.
 pub(crate) fn choose_move(black: bool, limit: Pair, pairs: &[Pair]) -> usize
     requires capped { ⌜ Small limit ⌝ }
     requires below { ⌜ reached limit (pairOf black (now pairs)) ≡ false ⌝ }
@@ -128,7 +128,11 @@ fn other_limit(limit: u32, total: u32, own: u32) -> u32
     ensures is { λ r. ⌜ r ≡ otherLimit limit total own ⌝ }
     ensures capped { λ r. ⌜ r ≤ 1048576 ⌝ }
 {
-    if limit == INF { INF } else { limit - total + own }
+    if limit == INF {
+        INF
+    } else {
+        limit - total + own
+    }
 }
 
 // The least number among the other moves.
@@ -139,7 +143,7 @@ fn second_of(black: bool, pairs: &[Pair], k: usize) -> u32
     least_of(black, &pairs[0..k]).min(least_of(black, &pairs[k + 1..]))
 }
 
-// The limits under which the move at k is worked.
+// The limits under which that move, at k, is expanded.
 pub(crate) fn limits_of(black: bool, limit: Pair, pairs: &[Pair], k: usize) -> Pair
     requires chosen { ⌜ k ≡ choiceOf black (now pairs) ⌝ }
     requires within { ⌜ k < length (now pairs) ⌝ }

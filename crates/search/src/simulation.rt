@@ -102,7 +102,13 @@ pub(crate) fn simulate<G: Bounded, S: Store>(
     ensures less { λ _. ⌜ now (plays .exit) .left ≤ now (plays .entry) .left ⌝ }
     ensures kept { λ _. ⌜ Kept (G·Game .means) (G·Game .line) (now (game .entry)) (now (game .exit)) ⌝ }
 {
-    match choose(black_moves(game), game.moves(), game.independent(), claim.yes, found) {
+    match choose(
+        black_moves(game),
+        game.moves(),
+        game.independent(),
+        claim.yes,
+        found,
+    ) {
         Step::Stop(held) => Some(held),
         Step::One(k) => try_move(game, store, claim, k, plays),
         Step::All(n) => try_all(game, store, claim, n, plays),

@@ -4,7 +4,7 @@ use native.Mathlib.Omega.{arith}
 use Rattle.std.specs.declared.option.Option.the-variants.{None}
 use Rattle.go_rules.specs.Groups.{OnBoard}
 use Rattle.go_rules.specs.Text.{linesOf}
-use Rattle.go_rules.proofs.Texts.{in-form, form-at, stones-word, form-answer, told}
+use Rattle.go_rules.proofs.Texts.{in-form, form-at, stones-word, form-answer, told, start-good}
 use Rattle.go_rules.proofs.text.read_position.Needs as need
 
 pub returns-in-rest-of : need.returns-in-rest-of
@@ -40,8 +40,10 @@ returns c =
     let t = c .args .text .now in
     let black = c .stones-of-black in
     let white = c .stones-of-white in
+    let tells = told t (b .n) (black .result) (white .result) (c .in-rest .ensures tt) lines (black .ensures) (white .ensures) (c .side-of .result) (c .place-of .result)
+    (c .side-of .ensures) (c .place-of .ensures) in
     record {
       answer = form-answer t (b .n) (black .result) (white .result) (c .in-rest .ensures tt) lines (black .ensures) (white .ensures) None (c .in-rest-dead-point .ensures tt);
-      told = told t (b .n) (black .result) (white .result) (c .in-rest .ensures tt) lines (black .ensures) (white .ensures) (c .side-of .result) (c .place-of .result)
-          (c .side-of .ensures) (c .place-of .ensures);
+      told = tells;
+      placed = start-good t (b .n) (c .place-of .result) tells;
     }

@@ -1,11 +1,11 @@
 use native.Mathlib.Omega.{arith}
-use Rattle.search.proofs.Looking.{confirmed-spent, confirmed-so}
+use Rattle.search.proofs.Judging.{confirmed-exhausted, confirmed-so}
 use Rattle.search.proofs.evaluation.confirm.Needs as need
 
 pub returns-in-Break-held : need.returns-in-Break-held
 returns-in-Break-held g c =
     rw (c .from-residual .ensures) (record {
-      does = confirmed-spent (g .S·Store .store) (c .args .store .now) (g .G·Game .means (c .args .game .now)) (c .args .claim .floor) (c .args .claim .yes) (g .G·Game .line (c .args .game .now)) (c .args .found) (c .args .plays .now .left) (c .simulate .last .plays .left) (c .in-Break-held .ensures tt .does);
+      does = confirmed-exhausted (g .S·Store .store) (c .args .store .now) (g .G·Game .means (c .args .game .now)) (c .args .claim .floor) (c .args .claim .yes) (g .G·Game .line (c .args .game .now)) (c .args .found) (c .args .plays .now .left) (c .simulate .last .plays .left) (c .in-Break-held .ensures tt .does);
       less = omega arith;
       kept = c .simulate .ensures .kept;
     })

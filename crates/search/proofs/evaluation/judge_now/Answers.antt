@@ -3,7 +3,8 @@ use mathlib.Core.Path.{_≡_, refl, sym, ap, _∙_}
 use Rattle.std.specs.declared.option.Option.the-variants.{Some}
 use Rattle.search.specs.declared.evaluation.Weight.the-variants.{Given, Check}
 use Rattle.search.specs.Steps.{weigh}
-use Rattle.search.proofs.Looking.{judged-so}
+use Rattle.search.proofs.Doing.{kept-same}
+use Rattle.search.proofs.Judging.{judged-so}
 use Rattle.search.proofs.evaluation.judge_now.Needs as need
 
 pub returns-in-Given : need.returns-in-Given
@@ -14,7 +15,7 @@ returns-in-Given g c =
           (sym (c .in-Given .is) ∙ (c .weigh .ensures ∙ ap (λ b. weigh b (c .probe-found .result)) (c .independent .ensures)))
           (refl, refl);
       less = omega arith;
-      kept = record { same = refl; back = refl };
+      kept = kept-same (g .G·Game .means) (g .G·Game .line) (c .args .game .now);
     }
 
 pub returns-in-Check : need.returns-in-Check

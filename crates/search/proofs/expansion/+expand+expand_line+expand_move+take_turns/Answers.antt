@@ -8,9 +8,9 @@ use Rattle.store.specs.declared.entry.Finding.the-variants.{Open}
 use Rattle.search_method.specs.Pairs.{reached}
 use Rattle.search_method.specs.Search.{heightOf, movesLeft}
 use Rattle.search.specs.Numbers.{All-small}
-use Rattle.search.proofs.Doing.{kept-trans, visited}
+use Rattle.search.proofs.Doing.{kept-same, kept-trans, visited}
 use Rattle.search.proofs.Smalls.{evaluate-small, all-small-set}
-use Rattle.search.proofs.Expanding.{moved-kept, turning-more, turning-spent, turning-left, expand-ends, expand-spent, expand-settled, told-kept}
+use Rattle.search.proofs.Expanding.{moved-kept, turning-more, turning-exhausted, turning-left, expand-ends, expand-exhausted, expand-settled, told-kept}
 use Rattle.search.proofs.expansion.+expand+expand_line+expand_move+take_turns.Needs as need
 
 pub expand-returns-then-played-height : need.expand-returns-then-played-height
@@ -21,13 +21,13 @@ expand-returns-then-played-height g t c =
       does = expand-ends (g .S·Store .store) (c .args .store .now) (g .G·Game .means (c .args .game .now)) (c .args .floor) (g .G·Game .line (c .args .game .now)) (c .args .limit) (c .args .plays .now .left) 0 e;
       less = omega arith;
       small = tt;
-      kept = record { same = refl; back = refl };
+      kept = kept-same (g .G·Game .means) (g .G·Game .line) (c .args .game .now);
     }
 
 pub expand-line-returns-in-Break-evaluate : need.expand-line-returns-in-Break-evaluate
 expand-line-returns-in-Break-evaluate g t c =
     rw (c .from-residual .ensures) (record {
-      does = expand-spent (g .S·Store .store) (c .args .store .now) (g .G·Game .means (c .args .game .now)) (c .args .line .now .key .floor) (g .G·Game .line (c .args .game .now)) (c .args .line .now .limit) (c .args .plays .now .left) (c .evaluate .last .plays .left) (c .pre .going) (c .in-Break-evaluate .ensures tt .does);
+      does = expand-exhausted (g .S·Store .store) (c .args .store .now) (g .G·Game .means (c .args .game .now)) (c .args .line .now .key .floor) (g .G·Game .line (c .args .game .now)) (c .args .line .now .limit) (c .args .plays .now .left) (c .evaluate .last .plays .left) (c .pre .going) (c .in-Break-evaluate .ensures tt .does);
       less = omega arith;
       small = tt;
       kept = c .evaluate .ensures .kept;
@@ -67,7 +67,7 @@ take-turns-returns-then-reaches g t c =
 pub take-turns-returns-in-rest : need.take-turns-returns-in-rest
 take-turns-returns-in-rest g t c =
     record {
-      does = turning-spent (g .S·Store .store) (g .G·Game .means (c .args .game .now)) (c .args .line .now .key .floor) (g .G·Game .line (c .args .game .now)) (c .args .line .now .limit) (c .args .store .now) (c .args .pairs .now) (c .args .plays .now .left) (c .turns .store) (c .turns .pairs) (c .turns .plays .left)
+      does = turning-exhausted (g .S·Store .store) (g .G·Game .means (c .args .game .now)) (c .args .line .now .key .floor) (g .G·Game .line (c .args .game .now)) (c .args .line .now .limit) (c .args .store .now) (c .args .pairs .now) (c .args .plays .now .left) (c .turns .store) (c .turns .pairs) (c .turns .plays .left)
           (c .expand-move .last .store) (c .record-in-rest .last .self) (c .args .line .now .black) (c .choose-move-k .result) (c .limits-of-next .result) (c .expand-move .last .plays .left) _
           (λ i. c .pre .told i .black) (ap (reached (c .args .line .now .limit)) (sym (c .line-pair-pair .ensures .is)) ∙ (sym (c .reaches .ensures) ∙ c .if-reaches .left))
           (c .choose-move-k .ensures .is) (c .limits-of-next .ensures .is) (c .turns .inv .1)

@@ -5,14 +5,14 @@ use Prim.Native.Nat.{_<_, _≤_}
 use Rattle.std.specs.declared.option.Option.the-variants.{Some, None}
 use Rattle.search.specs.declared.simulation.Step.the-variants.{Stop, One, All}
 use Rattle.search.specs.Steps.{stepOf}
-use Rattle.search.proofs.Doing.{kept-trans, visited, moves-left}
-use Rattle.search.proofs.Trying.{simulated, tried, tried-kept, trying-none, trying-more, trying-fails, trying-spent, trying-all}
+use Rattle.search.proofs.Doing.{kept-same, kept-trans, visited, moves-left}
+use Rattle.search.proofs.Trying.{simulated, tried, tried-kept, trying-none, trying-more, trying-fails, trying-exhausted, trying-all}
 use Rattle.search.proofs.simulation.+holds_now+simulate+try_all+try_move.Needs as need
 
 pub try-all-returns-in-Break-held : need.try-all-returns-in-Break-held
 try-all-returns-in-Break-held g t c =
     rw (c .from-residual .ensures) (record {
-      does = trying-spent (g .S·Store .store) (c .args .store .now) (g .G·Game .means (c .args .game .now)) (c .args .claim .floor) (c .args .claim .yes) (g .G·Game .line (c .args .game .now)) (c .args .moves) (c .args .plays .now .left) (c .loop-k .k) (c .loop-k .plays .left) (c .try-move .last .plays .left) (c .loop-k-test .taken) (c .loop-k .inv .1)
+      does = trying-exhausted (g .S·Store .store) (c .args .store .now) (g .G·Game .means (c .args .game .now)) (c .args .claim .floor) (c .args .claim .yes) (g .G·Game .line (c .args .game .now)) (c .args .moves) (c .args .plays .now .left) (c .loop-k .k) (c .loop-k .plays .left) (c .try-move .last .plays .left) (c .loop-k-test .taken) (c .loop-k .inv .1)
           (tried-kept (g .S·Store .store) (g .G·Game .means) (g .G·Game .line) (c .args .game .now) (c .loop-k .game) (c .loop-k .inv .0) (c .args .store .now) (c .args .claim .floor) (c .args .claim .yes) (c .loop-k .k) (c .loop-k .plays .left) None (c .try-move .last .plays .left) (c .in-Break-held .ensures tt .does));
       less = omega arith;
       kept = kept-trans (c .loop-k .inv .0) (c .try-move .ensures .kept);
@@ -58,7 +58,7 @@ simulate-returns-in-Stop g t c =
           (sym (c .in-Stop .is) ∙ (c .choose .ensures ∙ (λ i. stepOf (c .black-moves .ensures i) (c .moves .ensures i) (c .independent .ensures i) (c .args .claim .yes) (c .args .found))))
           (refl, refl);
       less = omega arith;
-      kept = record { same = refl; back = refl };
+      kept = kept-same (g .G·Game .means) (g .G·Game .line) (c .args .game .now);
     }
 
 pub simulate-returns-in-One : need.simulate-returns-in-One

@@ -4,6 +4,7 @@ use Rattle.search_method.specs.Refusals.{refusalDue}
 use Rattle.search_method.specs.Search.{solve}
 use Rattle.search_method.proofs.Bound.{budget-enough}
 use Rattle.search_method.proofs.Truth.{verdicts-true}
+use Rattle.search.proofs.Doing.{kept-same}
 use Rattle.search.proofs.Solving.{refused, ran}
 use Rattle.search.proofs.solve.solve.Needs as need
 
@@ -23,7 +24,7 @@ returns-in-Err g c =
     record {
       answers = refused (g .S·Store .store) (solve (g .G·Game .means (c .args .game .now)) (g .G·Game .line (c .args .game .now)) (c .args .floor) (c .args .budget)) _ (c .args .store .now) (c .in-Err .refusal) (c .in-Err .ensures tt);
       within = tt;
-      kept = record { same = refl; back = refl };
+      kept = kept-same (g .G·Game .means) (g .G·Game .line) (c .args .game .now);
       sound = verdicts-true (g .S·Store .store);
       enough = budget-enough;
     }
