@@ -56,12 +56,12 @@ pub(crate) enum Outcome {
 
 // The memory that is lent to the search.
 #[derive(Drop)]
-struct Memory {
+struct WorkMemory {
     lines: Vec<LineRecord>,
     moves: Vec<Pair>,
 }
 
-fn memory(heap: Global) -> Result<Memory, AllocError> {
+fn make_memory(heap: Global) -> Result<WorkMemory, AllocError> {
     let pair = Pair { pn: 0, dn: 0 };
     let key = Key {
         a: 0,
@@ -75,7 +75,7 @@ fn memory(heap: Global) -> Result<Memory, AllocError> {
         independent: false,
         limit: pair,
     };
-    Ok(Memory {
+    Ok(WorkMemory {
         lines: vec![in heap; record; 97]?,
         moves: vec![in heap; pair; 6208]?,
     })
@@ -116,7 +116,7 @@ fn written<G: Bounded, S: Store>(
     card: &Card,
     game: &mut G,
     store: &mut S,
-    memory: &mut Memory,
+    memory: &mut WorkMemory,
 ) -> Result<Result<Vec<u8>, WriteRefusal>, AllocError> {
     let mut size: usize = 4096;
     for _ in 0..32 {
@@ -164,7 +164,7 @@ fn settle_with(
 fn check_proof<G: Bounded>(
     card: &Card,
     game: &mut G,
-    memory: &mut Memory,
+    memory: &mut WorkMemory,
     proof: &[u8],
 ) -> Result<CheckedProof, Fault> {
     check(
@@ -184,7 +184,7 @@ fn fresh<G: Bounded, S: Store>(
     shown: Shown,
     game: &mut G,
     store: &mut S,
-    memory: &mut Memory,
+    memory: &mut WorkMemory,
 ) -> Result<Outcome, AllocError> {
     let solved = match solve(
         game,
@@ -219,7 +219,7 @@ fn settle<G: Bounded + Drop>(
         return Ok(Outcome::Refused(plain(e.number())));
     }
     let shown = look_at(board_size(card.position), &game);
-    let mut memory = memory(heap)?;
+    let mut memory = make_memory(heap)?;
     let Some(proof) = posted else {
         let mut slots: Vec<Option<Entry>> = vec![in heap; None; card.slots as usize]?;
         let mut table = Table::new(slots.as_mut_slice());
