@@ -52,9 +52,10 @@ pub no-move : (m : Meaning) (l : Line) (k : ℕ) (r : Refusal) → m .view l .sc
 no-move m l k r s room e = by (leb (m .view l .moves) k) refl
   where
     by : (t : Bool) → leb (m .view l .moves) k ≡ t → (ltb k (m .view l .moves) ≡ false) × (refusalNumber r ≡ 1)
-    by true x =
-        (ltb-false k (m .view l .moves) (le-of (m .view l .moves) k x),
-        e ∙ ap₂ (λ (o : Option Score) (t : Bool). firstAgainst (isSome o) t (leb 96 (length l))) s x)
+    by true x = (
+      ltb-false k (m .view l .moves) (le-of (m .view l .moves) k x),
+      e ∙ ap₂ (λ (o : Option Score) (t : Bool). firstAgainst (isSome o) t (leb 96 (length l))) s x,
+    )
     by false x = absurd (omega (arith, positive r, e, answer-ok m l k (none-is (m .view l .score) s) (lt-of (m .view l .moves) k x) room))
 
 pub stays : (m : Meaning) (l q : Line) (k : ℕ) (r : Refusal) → refusalNumber r ≡ playAnswer m l k → q ≡ playedLine m l k → q ≡ l

@@ -46,15 +46,18 @@ module _ (m : Meaning) (l : Line) (bytes : List ℕ) (budget : ℕ) where
   claim-sound floor v rest low high ok form (stopped y) z = tt
   claim-sound floor v rest low high ok form (through (b ∷ more) c) z = tt
   claim-sound floor v rest low high ok form (through [] c) z =
-      let t = walk-sound (length bytes) m floor v (suc budget) 0 l rest budget [] c ok z in
-      (record {
-        strategy = t .strategy;
-        low = low;
-        high = high;
-        wins = t .wins;
-        form = form ∙ ap (λ (y : List ℕ). encode floor ++ (encode (bit v) ++ y)) (t .form ∙ append-nil (written (t .strategy)));
-        cost = omega (arith, t .cost);
-      }, refl, omega arith)
+      let t = walk-sound (length bytes) m floor v (suc budget) 0 l rest budget [] c ok z in (
+        record {
+          strategy = t .strategy;
+          low = low;
+          high = high;
+          wins = t .wins;
+          form = form ∙ ap (λ (y : List ℕ). encode floor ++ (encode (bit v) ++ y)) (t .form ∙ append-nil (written (t .strategy)));
+          cost = omega (arith, t .cost);
+        },
+        refl,
+        omega arith,
+      )
 
   verdict-sound : (floor : ℕ) (rest : List ℕ) → 1 ≤ floor → floor ≤ 2 → Bytes rest → bytes ≡ encode floor ++ rest →
       (x : Read) → read rest ≡ x → Right (byVerdict m l bytes budget floor rest x)

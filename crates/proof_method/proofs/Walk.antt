@@ -133,9 +133,12 @@ module _ (whole : ℕ) (m : Meaning) (floor : ℕ) (v : Bool) where
             let a = each-sound (m .view l .moves) 0 rest n after left ok e′ in
             record {
               strategy = replies (m .view l .moves) (a .strategies);
-              wins =
-                  (z, beq-other (blackMoves (m .view l)) v y, refl,
-                  λ k h. subst (λ (i : ℕ). Wins m floor v (i ∷ l) (a .strategies k)) (omega arith) (a .win k h));
+              wins = (
+                z,
+                beq-other (blackMoves (m .view l)) v y,
+                refl,
+                λ k h. subst (λ (i : ℕ). Wins m floor v (i ∷ l) (a .strategies k)) (omega arith) (a .win k h),
+              );
               form = a .form;
               cost = a .cost;
             }

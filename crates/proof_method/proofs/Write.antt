@@ -299,14 +299,16 @@ module _ {S : Type 0} (𝓢 : StoreMeaning S) (m : Meaning) (H : ℕ) (lawful : 
       ended : (x : Put) → Laid-at v l header n x → Holds (Filed-at l budget) (done (end budget v x))
       ended (failed e) q = ends (Filed-at l budget) (unwritten e) q
       ended (put after left) q =
-          ends (Filed-at l budget) (proof v after (budget - left))
-          (record {
-            strategy = q .strategy;
-            wins = q .wins;
-            form = q .form ∙ append-assoc (encode floor) (encode (bit v)) (written (q .strategy));
-            cost = omega (arith, q .cost);
-            fits = q .fits;
-          }, omega arith)
+          ends (Filed-at l budget) (proof v after (budget - left)) (
+            record {
+              strategy = q .strategy;
+              wins = q .wins;
+              form = q .form ∙ append-assoc (encode floor) (encode (bit v)) (written (q .strategy));
+              cost = omega (arith, q .cost);
+              fits = q .fits;
+            },
+            omega arith,
+          )
 
   write-files : (l : Line) (budget : ℕ) → Reachable m l → Holds (Filed-at l budget) (writeBy stray m l floor budget room)
   write-files l budget r =
@@ -320,11 +322,17 @@ module _ {S : Type 0} (𝓢 : StoreMeaning S) (m : Meaning) (H : ℕ) (lawful : 
 pub writes-proofs : {S : Type 0} (𝓢 : StoreMeaning S) → Writes-proofs 𝓢
 writes-proofs 𝓢 m H lawful law l r floor low high budget room s t v bytes count all run =
     let g = write-files 𝓢 m H lawful law 7 floor low high room l budget r s t (proof v bytes count) all run in
-    let q = g .0 .0 in
-    ((plays (q .strategy), q .cost,
-    accepts-proofs .all m l bytes budget floor (plays (q .strategy)) v (λ l r. lawful .fit l r .moves) r
-    (record { strategy = q .strategy; low = low; high = high; wins = q .wins; form = q .form; cost = refl })
-    (omega (arith, q .cost, g .0 .1))), q .fits, g .1)
+    let q = g .0 .0 in (
+      (
+        plays (q .strategy),
+        q .cost,
+        accepts-proofs .all m l bytes budget floor (plays (q .strategy)) v (λ l r. lawful .fit l r .moves) r
+            (record { strategy = q .strategy; low = low; high = high; wins = q .wins; form = q .form; cost = refl })
+            (omega (arith, q .cost, g .0 .1)),
+      ),
+      q .fits,
+      g .1,
+    )
 
 pub no-stray : {S : Type 0} (𝓢 : StoreMeaning S) → No-stray 𝓢
 no-stray 𝓢 m H lawful law l r floor low high stray budget room s t n all run =

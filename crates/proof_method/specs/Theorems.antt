@@ -23,12 +23,12 @@ pub record Proof (m : Meaning) (l : Line) (bytes : List ℕ) (floor : ℕ) (v : 
 -- check accepts exactly the files of winning strategies whose plays the budget covers, and answers their plays
 pub record Accepts-proofs : Type 0 where
   pub only :
-    (m : Meaning) (l : Line) (bytes : List ℕ) (budget floor n p : ℕ) (v : Bool) → Bytes bytes →
-    check m l bytes budget ≡ accepted floor v n p → Proof m l bytes floor v p × (n ≡ length bytes) × (p ≤ budget)
+      (m : Meaning) (l : Line) (bytes : List ℕ) (budget floor n p : ℕ) (v : Bool) → Bytes bytes →
+      check m l bytes budget ≡ accepted floor v n p → Proof m l bytes floor v p × (n ≡ length bytes) × (p ≤ budget)
   pub all :
-    (m : Meaning) (l : Line) (bytes : List ℕ) (budget floor p : ℕ) (v : Bool) →
-    ((q : Line) → Reachable m q → m .view q .moves ≤ 64) → Reachable m l →
-    Proof m l bytes floor v p → p ≤ budget → check m l bytes budget ≡ accepted floor v (length bytes) p
+      (m : Meaning) (l : Line) (bytes : List ℕ) (budget floor p : ℕ) (v : Bool) →
+      ((q : Line) → Reachable m q → m .view q .moves ≤ 64) → Reachable m l →
+      Proof m l bytes floor v p → p ≤ budget → check m l bytes budget ≡ accepted floor v (length bytes) p
 
 -- an accepted claim is true
 abbrev pub Claims-true : Type 0

@@ -1,8 +1,11 @@
 // The definitions of checking and writing proof files, and the theorems about them.
 //
 // A proof file claims a verdict for a floor at a line, and gives the moves of the claiming side in the order in which a
-// walk through all replies of the other side meets them. specs/Strategy says what such a file means, specs/Check what
-// check answers for any bytes; each function here states one theorem.
+// walk through all replies of the other side meets them. specs/ is read in this order. `Strategy`: what such a file
+// means. `Check`: what check answers for any bytes. `Write`: what write does, as a computation over a store. Then what
+// is proved of them: `Theorems` of check, `Writing` of write over a sound store.
+//
+// The types that check and write share are `Claim` and `State`. Each other function here states one theorem.
 pub mod claim;
 
 ghost use Rattle.proof_method.specs.Theorems.{Accepts-proofs, Claims-true, Bisimilar-checked};

@@ -54,10 +54,13 @@ put-is before mid at form e z w =
     let h = end-some before at form e z in
     let size : length (take at before) ≡ at = length-take-le at before (omega (arith, h .0)) in
     let here : mid ≡ (take at before ++ form) ++ drop (at + length form) before =
-        w ∙ sym (fits-bytes before at form (h .0)) ∙ sym (append-assoc (take at before) form (drop (at + length form) before)) in
-    let sum : length (take at before ++ form) ≡ e = omega (arith, length-append (take at before) form, size, h .1) in
-    (h .0, h .1, ap (take e) here ∙ take-at (take at before ++ form) (drop (at + length form) before) e sum,
-    ap (drop e) here ∙ drop-at (take at before ++ form) (drop (at + length form) before) e sum ∙ ap (λ (i : ℕ). drop i before) (sym (h .1)))
+    w ∙ sym (fits-bytes before at form (h .0)) ∙ sym (append-assoc (take at before) form (drop (at + length form) before)) in
+    let sum : length (take at before ++ form) ≡ e = omega (arith, length-append (take at before) form, size, h .1) in (
+      h .0,
+      h .1,
+      ap (take e) here ∙ take-at (take at before ++ form) (drop (at + length form) before) e sum,
+      ap (drop e) here ∙ drop-at (take at before ++ form) (drop (at + length form) before) e sum ∙ ap (λ (i : ℕ). drop i before) (sym (h .1)),
+    )
 
 pub put-inside : (before mid : List ℕ) (at k e : ℕ) → Some e ≡ end-after before at (encode k) → length mid ≡ length before → e ≤ length mid
 put-inside before mid at k e z same = let h = end-some before at (encode k) e z in omega (arith, h .0, h .1)
@@ -159,7 +162,11 @@ module _ {S : Type 0} (𝓢 : StoreMeaning S) (m : Meaning) (claim : Claim) (l :
   begun-none start before from h =
       let e : m .view l .moves - 0 ≡ m .view l .moves = omega arith in
       record {
-        size = refl; after = omega arith; inside = h; less = omega arith; past = refl;
+        size = refl;
+        after = omega arith;
+        inside = h;
+        less = omega arith;
+        past = refl;
         rest = λ f le x last. subst (λ (c : ℕ). Runs 𝓢 (each (on m claim l (length before) f) 0 c (take (start .at) before) (start .left)) from last x) e;
       }
 

@@ -12,7 +12,14 @@ use search_method::kinds::Answer;
 use search_method::kinds::Pair;
 use store::interface::Store;
 
-pub(crate) fn find<G: Bounded, S: Store>(game: &mut G, store: &mut S, floor: u8, budget: u32, lines: &mut [LineRecord], moves: &mut [Pair]) -> Answer
+pub(crate) fn find<G: Bounded, S: Store>(
+    game: &mut G,
+    store: &mut S,
+    floor: u8,
+    budget: u32,
+    lines: &mut [LineRecord],
+    moves: &mut [Pair],
+) -> Answer
     requires floor { ⌜ 1 ≤ floor ⌝ ∗ ⌜ floor ≤ 2 ⌝ }
     requires memory { ⌜ 97 ≤ length (now lines) ⌝ ∗ ⌜ 6_208 ≤ length (now moves) ⌝ }
     ensures runs { λ r. ⌜ Runs (S·Store .store) (solveOf (G·Game .means (now (game .entry))) (G·Game .line (now (game .entry))) floor budget) (now (store .entry)) (now (store .exit)) r ⌝ }

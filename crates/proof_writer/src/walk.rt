@@ -18,7 +18,16 @@ use search_method::kinds::Pair;
 use store::interface::Store;
 
 // A legal move is played, the walk goes on, and the move is taken back.
-fn step<G: Bounded, S: Store>(game: &mut G, store: &mut S, lines: &mut [LineRecord], moves: &mut [Pair], out: &mut [u8], claim: Claim, k: u32, state: State) -> Result<State, WriteRefusal>
+fn step<G: Bounded, S: Store>(
+    game: &mut G,
+    store: &mut S,
+    lines: &mut [LineRecord],
+    moves: &mut [Pair],
+    out: &mut [u8],
+    claim: Claim,
+    k: u32,
+    state: State,
+) -> Result<State, WriteRefusal>
     requires floor { ⌜ 1 ≤ claim .floor ⌝ ∗ ⌜ claim .floor ≤ 2 ⌝ }
     requires memory { ⌜ 97 ≤ length (now lines) ⌝ ∗ ⌜ 6_208 ≤ length (now moves) ⌝ }
     requires legal { ⌜ k < G·Game .means (now game) .view (G·Game .line (now game)) .moves ⌝ }
@@ -31,13 +40,34 @@ fn step<G: Bounded, S: Store>(game: &mut G, store: &mut S, lines: &mut [LineReco
         return Err(WriteRefusal::OutOfBudget);
     }
     let _ = game.play(k);
-    let below = walk(game, store, lines, moves, out, claim, None, State { at: state.at, left: state.left - 1 });
+    let below = walk(
+        game,
+        store,
+        lines,
+        moves,
+        out,
+        claim,
+        None,
+        State {
+            at: state.at,
+            left: state.left - 1,
+        },
+    );
     let _ = game.take_back();
     below
 }
 
 // A move of the claiming side: its number, and then its play. A solved move is always legal.
-fn own<G: Bounded, S: Store>(game: &mut G, store: &mut S, lines: &mut [LineRecord], moves: &mut [Pair], out: &mut [u8], claim: Claim, k: u32, state: State) -> Result<State, WriteRefusal>
+fn own<G: Bounded, S: Store>(
+    game: &mut G,
+    store: &mut S,
+    lines: &mut [LineRecord],
+    moves: &mut [Pair],
+    out: &mut [u8],
+    claim: Claim,
+    k: u32,
+    state: State,
+) -> Result<State, WriteRefusal>
     requires floor { ⌜ 1 ≤ claim .floor ⌝ ∗ ⌜ claim .floor ≤ 2 ⌝ }
     requires memory { ⌜ 97 ≤ length (now lines) ⌝ ∗ ⌜ 6_208 ≤ length (now moves) ⌝ }
     requires inside { ⌜ state .at ≤ length (now out) ⌝ }
@@ -50,12 +80,32 @@ fn own<G: Bounded, S: Store>(game: &mut G, store: &mut S, lines: &mut [LineRecor
     }
     match put_number(out, state.at, k) {
         None => Err(WriteRefusal::NoRoom),
-        Some(at) => step(game, store, lines, moves, out, claim, k, State { at, left: state.left }),
+        Some(at) => step(
+            game,
+            store,
+            lines,
+            moves,
+            out,
+            claim,
+            k,
+            State {
+                at,
+                left: state.left,
+            },
+        ),
     }
 }
 
 // The turn of the claiming side: the line is solved for the move.
-fn own_turn<G: Bounded, S: Store>(game: &mut G, store: &mut S, lines: &mut [LineRecord], moves: &mut [Pair], out: &mut [u8], claim: Claim, state: State) -> Result<State, WriteRefusal>
+fn own_turn<G: Bounded, S: Store>(
+    game: &mut G,
+    store: &mut S,
+    lines: &mut [LineRecord],
+    moves: &mut [Pair],
+    out: &mut [u8],
+    claim: Claim,
+    state: State,
+) -> Result<State, WriteRefusal>
     requires floor { ⌜ 1 ≤ claim .floor ⌝ ∗ ⌜ claim .floor ≤ 2 ⌝ }
     requires memory { ⌜ 97 ≤ length (now lines) ⌝ ∗ ⌜ 6_208 ≤ length (now moves) ⌝ }
     requires inside { ⌜ state .at ≤ length (now out) ⌝ }
@@ -65,12 +115,33 @@ fn own_turn<G: Bounded, S: Store>(game: &mut G, store: &mut S, lines: &mut [Line
 {
     match find(game, store, claim.floor, state.left, lines, moves) {
         Answer::OutOfBudget { .. } => Err(WriteRefusal::OutOfBudget),
-        Answer::Solved { best, count, .. } => own(game, store, lines, moves, out, claim, best as u32, State { at: state.at, left: state.left - count }),
+        Answer::Solved { best, count, .. } => own(
+            game,
+            store,
+            lines,
+            moves,
+            out,
+            claim,
+            best as u32,
+            State {
+                at: state.at,
+                left: state.left - count,
+            },
+        ),
     }
 }
 
 // Every move of the other side in order.
-fn all_moves<G: Bounded, S: Store>(game: &mut G, store: &mut S, lines: &mut [LineRecord], moves: &mut [Pair], out: &mut [u8], claim: Claim, count: u32, start: State) -> Result<State, WriteRefusal>
+fn all_moves<G: Bounded, S: Store>(
+    game: &mut G,
+    store: &mut S,
+    lines: &mut [LineRecord],
+    moves: &mut [Pair],
+    out: &mut [u8],
+    claim: Claim,
+    count: u32,
+    start: State,
+) -> Result<State, WriteRefusal>
     requires floor { ⌜ 1 ≤ claim .floor ⌝ ∗ ⌜ claim .floor ≤ 2 ⌝ }
     requires memory { ⌜ 97 ≤ length (now lines) ⌝ ∗ ⌜ 6_208 ≤ length (now moves) ⌝ }
     requires all { ⌜ count ≡ G·Game .means (now game) .view (G·Game .line (now game)) .moves ⌝ }
@@ -87,7 +158,16 @@ fn all_moves<G: Bounded, S: Store>(game: &mut G, store: &mut S, lines: &mut [Lin
 }
 
 // The walk from the game's line, whose move may be known already. The game is at that line again on every way out.
-fn walk<G: Bounded, S: Store>(game: &mut G, store: &mut S, lines: &mut [LineRecord], moves: &mut [Pair], out: &mut [u8], claim: Claim, known: Option<u32>, state: State) -> Result<State, WriteRefusal>
+fn walk<G: Bounded, S: Store>(
+    game: &mut G,
+    store: &mut S,
+    lines: &mut [LineRecord],
+    moves: &mut [Pair],
+    out: &mut [u8],
+    claim: Claim,
+    known: Option<u32>,
+    state: State,
+) -> Result<State, WriteRefusal>
     requires floor { ⌜ 1 ≤ claim .floor ⌝ ∗ ⌜ claim .floor ≤ 2 ⌝ }
     requires memory { ⌜ 97 ≤ length (now lines) ⌝ ∗ ⌜ 6_208 ≤ length (now moves) ⌝ }
     requires inside { ⌜ state .at ≤ length (now out) ⌝ }
@@ -112,15 +192,20 @@ fn walk<G: Bounded, S: Store>(game: &mut G, store: &mut S, lines: &mut [LineReco
 fn verdict_number(yes: bool) -> u32
     ensures { λ r. ⌜ r ≡ bit yes ⌝ }
 {
-    if yes {
-        1
-    } else {
-        0
-    }
+    if yes { 1 } else { 0 }
 }
 
 // The number of the verdict, then the walk from the line whose move is known.
-fn put_verdict<G: Bounded, S: Store>(game: &mut G, store: &mut S, lines: &mut [LineRecord], moves: &mut [Pair], out: &mut [u8], claim: Claim, best: u32, state: State) -> Result<State, WriteRefusal>
+fn put_verdict<G: Bounded, S: Store>(
+    game: &mut G,
+    store: &mut S,
+    lines: &mut [LineRecord],
+    moves: &mut [Pair],
+    out: &mut [u8],
+    claim: Claim,
+    best: u32,
+    state: State,
+) -> Result<State, WriteRefusal>
     requires floor { ⌜ 1 ≤ claim .floor ⌝ ∗ ⌜ claim .floor ≤ 2 ⌝ }
     requires memory { ⌜ 97 ≤ length (now lines) ⌝ ∗ ⌜ 6_208 ≤ length (now moves) ⌝ }
     requires inside { ⌜ state .at ≤ length (now out) ⌝ }
@@ -130,12 +215,33 @@ fn put_verdict<G: Bounded, S: Store>(game: &mut G, store: &mut S, lines: &mut [L
 {
     match put_number(out, state.at, verdict_number(claim.yes)) {
         None => Err(WriteRefusal::NoRoom),
-        Some(at) => walk(game, store, lines, moves, out, claim, Some(best), State { at, left: state.left }),
+        Some(at) => walk(
+            game,
+            store,
+            lines,
+            moves,
+            out,
+            claim,
+            Some(best),
+            State {
+                at,
+                left: state.left,
+            },
+        ),
     }
 }
 
 // The floor, then the rest of the file.
-pub(crate) fn put_file<G: Bounded, S: Store>(game: &mut G, store: &mut S, lines: &mut [LineRecord], moves: &mut [Pair], out: &mut [u8], claim: Claim, best: u32, state: State) -> Result<State, WriteRefusal>
+pub(crate) fn put_file<G: Bounded, S: Store>(
+    game: &mut G,
+    store: &mut S,
+    lines: &mut [LineRecord],
+    moves: &mut [Pair],
+    out: &mut [u8],
+    claim: Claim,
+    best: u32,
+    state: State,
+) -> Result<State, WriteRefusal>
     requires floor { ⌜ 1 ≤ claim .floor ⌝ ∗ ⌜ claim .floor ≤ 2 ⌝ }
     requires memory { ⌜ 97 ≤ length (now lines) ⌝ ∗ ⌜ 6_208 ≤ length (now moves) ⌝ }
     requires inside { ⌜ state .at ≤ length (now out) ⌝ }
@@ -145,6 +251,18 @@ pub(crate) fn put_file<G: Bounded, S: Store>(game: &mut G, store: &mut S, lines:
 {
     match put_number(out, state.at, claim.floor as u32) {
         None => Err(WriteRefusal::NoRoom),
-        Some(at) => put_verdict(game, store, lines, moves, out, claim, best, State { at, left: state.left }),
+        Some(at) => put_verdict(
+            game,
+            store,
+            lines,
+            moves,
+            out,
+            claim,
+            best,
+            State {
+                at,
+                left: state.left,
+            },
+        ),
     }
 }

@@ -26,7 +26,15 @@ pub struct Written {
 }
 
 // Solves the line and puts the file; where that fails the buffer may hold a part of it.
-fn put_proof<G: Bounded, S: Store>(game: &mut G, store: &mut S, lines: &mut [LineRecord], moves: &mut [Pair], out: &mut [u8], floor: u8, budget: u32) -> Result<Written, WriteRefusal>
+fn put_proof<G: Bounded, S: Store>(
+    game: &mut G,
+    store: &mut S,
+    lines: &mut [LineRecord],
+    moves: &mut [Pair],
+    out: &mut [u8],
+    floor: u8,
+    budget: u32,
+) -> Result<Written, WriteRefusal>
     requires floor { ⌜ 1 ≤ floor ⌝ ∗ ⌜ floor ≤ 2 ⌝ }
     requires memory { ⌜ 97 ≤ length (now lines) ⌝ ∗ ⌜ 6_208 ≤ length (now moves) ⌝ }
     ensures is { λ r. ⌜ Runs (S·Store .store) (writeOf (G·Game .means (now (game .entry))) (G·Game .line (now (game .entry))) floor budget (length (now (out .entry)))) (now (store .entry)) (now (store .exit)) (writtenBy (now (out .exit)) r) ⌝ }
@@ -37,14 +45,38 @@ fn put_proof<G: Bounded, S: Store>(game: &mut G, store: &mut S, lines: &mut [Lin
         Answer::OutOfBudget { .. } => Err(WriteRefusal::OutOfBudget),
         Answer::Solved { yes, best, count } => {
             let claim = Claim { floor, yes };
-            let end = put_file(game, store, lines, moves, out, claim, best as u32, State { at: 0, left: budget - count })?;
-            Ok(Written { yes, length: end.at, plays: budget - end.left })
+            let end = put_file(
+                game,
+                store,
+                lines,
+                moves,
+                out,
+                claim,
+                best as u32,
+                State {
+                    at: 0,
+                    left: budget - count,
+                },
+            )?;
+            Ok(Written {
+                yes,
+                length: end.at,
+                plays: budget - end.left,
+            })
         }
     }
 }
 
 // Writes a proof of the line's verdict for the floor into the buffer. The game is at its line again on every way out.
-pub fn write<G: Bounded, S: Store>(game: &mut G, store: &mut S, floor: u32, budget: u32, lines: &mut [LineRecord], moves: &mut [Pair], out: &mut [u8]) -> Result<Written, WriteRefusal>
+pub fn write<G: Bounded, S: Store>(
+    game: &mut G,
+    store: &mut S,
+    floor: u32,
+    budget: u32,
+    lines: &mut [LineRecord],
+    moves: &mut [Pair],
+    out: &mut [u8],
+) -> Result<Written, WriteRefusal>
     ensures is { λ r. ⌜ Runs (S·Store .store) (writeIn (length (now (lines .entry))) (length (now (moves .entry))) (G·Game .means (now (game .entry))) (G·Game .line (now (game .entry))) floor budget (length (now (out .entry)))) (now (store .entry)) (now (store .exit)) (writtenBy (now (out .exit)) r) ⌝ }
     ensures buffer { λ r. ⌜ now (out .exit) ≡ buffer (now (out .entry)) (writtenBy (now (out .exit)) r) ⌝ }
     ensures fits { λ r. ⌜ Fits (now (out .exit)) r ⌝ }

@@ -46,10 +46,10 @@ descend-returns g t c =
     let ok = play .legal in
     let goes = c .play .ensures .moved ∙ play .line in
     let pos : 0 < c .args .state .left =
-        elim (c .else-state-eq0 .came) [
-          descend-else-state-eq0·by·then-state-eq0·else-k-moves w ↦ absurd (omega (arith, w .if-k-moves .left, w .moves .ensures, ok))
-        | descend-else-state-eq0·by·else-state-eq0 w ↦ omega (arith, w .if-state-eq0 .left)
-        ] in
+    elim (c .else-state-eq0 .came) [
+      | descend-else-state-eq0·by·then-state-eq0·else-k-moves w ↦ absurd (omega (arith, w .if-k-moves .left, w .moves .ensures, ok))
+      | descend-else-state-eq0·by·else-state-eq0 w ↦ omega (arith, w .if-state-eq0 .left)
+    ] in
     let e : c .args .depth + 1 ≡ suc (c .args .depth) = omega arith in
     record {
       is =
@@ -131,11 +131,12 @@ all-moves-returns-in-Break-state g t c =
 
 pub all-moves-loop-k-again : need.all-moves-loop-k-again
 all-moves-loop-k-again g t c =
-    let restored = c .loop-k .inv .0 in
-    (restored-then restored (c .descend .ensures .restored),
-    through-more (g .G·Game .means (c .args .game .now)) (c .args .proof .now) (c .args .claim) (g .G·Game .line (c .args .game .now)) (c .args .depth)
-    (c .args .start) (c .loop-k .k) (c .loop-k .state .at) (c .loop-k .state) (c .in-Continue-state .state)
-    (omega (arith, c .loop-k-test .taken, c .pre .all)) (c .loop-k .inv .1)
-    (descends-restored (g .G·Game .means) (g .G·Game .line) (c .args .game .now) (c .loop-k .game) restored (c .args .proof .now) (c .args .claim) (c .args .depth) (c .loop-k .k) (c .loop-k .state .at) (c .loop-k .state) (Ok (c .in-Continue-state .state))
-    (c .in-Continue-state .ensures tt .is))
-    (c .in-Continue-state .ensures tt .within))
+    let restored = c .loop-k .inv .0 in (
+      restored-then restored (c .descend .ensures .restored),
+      through-more (g .G·Game .means (c .args .game .now)) (c .args .proof .now) (c .args .claim) (g .G·Game .line (c .args .game .now)) (c .args .depth)
+          (c .args .start) (c .loop-k .k) (c .loop-k .state .at) (c .loop-k .state) (c .in-Continue-state .state)
+          (omega (arith, c .loop-k-test .taken, c .pre .all)) (c .loop-k .inv .1)
+          (descends-restored (g .G·Game .means) (g .G·Game .line) (c .args .game .now) (c .loop-k .game) restored (c .args .proof .now) (c .args .claim) (c .args .depth) (c .loop-k .k) (c .loop-k .state .at) (c .loop-k .state) (Ok (c .in-Continue-state .state))
+          (c .in-Continue-state .ensures tt .is))
+          (c .in-Continue-state .ensures tt .within),
+    )

@@ -85,11 +85,12 @@ all-moves-returns-in-Break-state g t c =
 
 pub all-moves-loop-k-again : need.all-moves-loop-k-again
 all-moves-loop-k-again g t c =
-    let restored = c .loop-k .inv .0 in
-    (restored-then restored (c .step .ensures .restored),
-    begun-more (g .S·Store .store) (g .G·Game .means (c .args .game .now)) (c .args .claim) (g .G·Game .line (c .args .game .now)) (c .args .start) (c .args .out .now) (c .args .store .now) (c .loop-k .k) (c .loop-k .state) (c .loop-k .out) (c .loop-k .store) (omega (arith, c .loop-k-test .taken, c .pre .all)) (c .loop-k .inv .1)
-    (c .step .last .out) (c .step .last .store) (c .in-Continue-state .state) (c .step .kept .out) (c .in-Continue-state .ensures tt .framed)
-    (plays-restored (g .S·Store .store) (g .G·Game .means) (g .G·Game .line) (c .args .game .now) (c .loop-k .game) restored (c .args .claim) (c .loop-k .k) (c .loop-k .state) (c .loop-k .out) (c .loop-k .store) (c .step .last .out) (c .step .last .store) (Ok (c .in-Continue-state .state))
-    (c .in-Continue-state .ensures tt .is)),
-    c .step .kept .lines ∙ c .loop-k .inv .2,
-    c .step .kept .moves ∙ c .loop-k .inv .3)
+    let restored = c .loop-k .inv .0 in (
+      restored-then restored (c .step .ensures .restored),
+      begun-more (g .S·Store .store) (g .G·Game .means (c .args .game .now)) (c .args .claim) (g .G·Game .line (c .args .game .now)) (c .args .start) (c .args .out .now) (c .args .store .now) (c .loop-k .k) (c .loop-k .state) (c .loop-k .out) (c .loop-k .store) (omega (arith, c .loop-k-test .taken, c .pre .all)) (c .loop-k .inv .1)
+          (c .step .last .out) (c .step .last .store) (c .in-Continue-state .state) (c .step .kept .out) (c .in-Continue-state .ensures tt .framed)
+          (plays-restored (g .S·Store .store) (g .G·Game .means) (g .G·Game .line) (c .args .game .now) (c .loop-k .game) restored (c .args .claim) (c .loop-k .k) (c .loop-k .state) (c .loop-k .out) (c .loop-k .store) (c .step .last .out) (c .step .last .store) (Ok (c .in-Continue-state .state))
+          (c .in-Continue-state .ensures tt .is)),
+      c .step .kept .lines ∙ c .loop-k .inv .2,
+      c .step .kept .moves ∙ c .loop-k .inv .3,
+    )

@@ -41,8 +41,9 @@ returns-in-Continue-end g c =
           (starts-restored (g .S·Store .store) (g .G·Game .means) (g .G·Game .line) (c .args .game .now) (c .find .last .game) (c .find .ensures .restored) (record { floor = c .args .floor; yes = c .in-Solved .yes }) (c .in-Solved .best) (record { at = 0; left = c .args .budget - c .in-Solved .count }) (c .args .out .now) (c .find .last .store) (c .put-file .last .out) (c .put-file .last .store) (c .put-file .result)
           (c .put-file .ensures .is))
           (c .in-Continue-end .end) (c .in-Continue-end .was tt);
-      past =
-          (omega (arith, frame .1, c .put-file .kept .out),
-          buffer-is (c .args .out .now) (c .put-file .last .out) (c .in-Continue-end .end .at) (frame .1) (c .put-file .kept .out) (frame .3));
+      past = (
+        omega (arith, frame .1, c .put-file .kept .out),
+        buffer-is (c .args .out .now) (c .put-file .last .out) (c .in-Continue-end .end .at) (frame .1) (c .put-file .kept .out) (frame .3),
+      );
       restored = restored-then (c .find .ensures .restored) (c .put-file .ensures .restored);
     }
