@@ -61,6 +61,10 @@ fn take_field(case: &mut Case<'_>, field: &[u8]) -> Option<()> {
     Some(())
 }
 
+fn is_question(field: &[u8]) -> bool {
+    field.starts_with(b"solve=") || field.starts_with(b"write=") || field.starts_with(b"check=")
+}
+
 // The case of a line.
 pub(crate) fn case_of(text: &[u8]) -> Option<Case<'_>> {
     let (position, after) = field_of(text);
@@ -72,7 +76,7 @@ pub(crate) fn case_of(text: &[u8]) -> Option<Case<'_>> {
     };
     for _ in 0..text.len() {
         let (field, more) = field_of(case.questions);
-        if field.is_empty() || field.starts_with(b"solve=") {
+        if field.is_empty() || is_question(field) {
             break;
         }
         take_field(&mut case, field)?;
@@ -129,5 +133,9 @@ pub(crate) fn nodes_of(heap: Global, text: &[u8]) -> Result<Vec<Node>, Trouble> 
             None => return Ok(nodes),
         }
     }
-    if text.is_empty() { Ok(nodes) } else { Err(Trouble::Malformed) }
+    if text.is_empty() {
+        Ok(nodes)
+    } else {
+        Err(Trouble::Malformed)
+    }
 }

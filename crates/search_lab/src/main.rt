@@ -3,9 +3,11 @@
 // Each line of standard input is a case: a position, rule layers over it, a store, and questions. The questions of a case
 // are asked in order of one game and one store, and each gets a line of output. tools/README.md has the format.
 //
-// `text` reads fields and numbers, `case` a case, `ask` a question and puts it to the search; `main` prints.
+// `text` and `hex` read fields, numbers and bytes, `case` a case, `ask` a question and puts it to the search, to the writer of
+// proofs or to their check; `main` prints.
 mod ask;
 mod case;
+mod hex;
 mod text;
 mod trouble;
 
@@ -59,7 +61,10 @@ fn ask_all<G: Bounded, S: Store>(
         }
         let (field, more) = field_of(rest);
         match question_of(rt.alloc(), field) {
-            Ok(question) => println!(rt, "{}", answer_to(game, store, &mut memory, &question))?,
+            Ok(question) => {
+                let reply = answer_to(rt.alloc(), game, store, &mut memory, &question)?;
+                println!(rt, "{reply}")?;
+            }
             Err(e) => println!(rt, "{}", e.words())?,
         }
         rest = more;
@@ -78,13 +83,28 @@ fn under_limit<G: Game + Drop, S: Store>(
     match case.rules {
         Rules::Limit(n) => ask_all(rt, &mut Limit::over(game, n), store, asked),
         Rules::LimitLimit(n, top) => {
-            ask_all(rt, &mut Limit::over(Limit::over(game, n), top), store, asked)
+            ask_all(
+                rt,
+                &mut Limit::over(Limit::over(game, n), top),
+                store,
+                asked,
+            )
         }
         Rules::RepeatLimit(n) => {
-            ask_all(rt, &mut Limit::over(Repeat::over(game, ()), n), store, asked)
+            ask_all(
+                rt,
+                &mut Limit::over(Repeat::over(game, ()), n),
+                store,
+                asked,
+            )
         }
         Rules::LimitRepeat(n) => {
-            ask_all(rt, &mut Repeat::over(Limit::over(game, n), ()), store, asked)
+            ask_all(
+                rt,
+                &mut Repeat::over(Limit::over(game, n), ()),
+                store,
+                asked,
+            )
         }
         Rules::LimitRepeatLimit(n, top) => {
             let below = Repeat::over(Limit::over(game, n), ());
