@@ -4,6 +4,7 @@ ghost use Prim.Native.Nat.{ℕ, _+_, _*_, _^_, _<_, _≤_};
 ghost use lib.ListN.{length};
 ghost use Rattle.std.specs.declared.result.Result.the-variants.{Ok, Err};
 ghost use Rattle.game.specs.Kinds.{numberOf, other};
+ghost use Rattle.game.specs.Laws.{BoundedBy};
 ghost use Rattle.game.specs.Prefixes.{prefix};
 ghost use Rattle.game.specs.Refusals.{refusedAt, backAnswer, shorter};
 ghost use Rattle.go_rules.specs.Play.{movesAt, after, standing, winFor, atariGo, Position, lineOf, LegalMoves, Walked};
@@ -86,6 +87,20 @@ impl AtariGo {
             numbers: [0; 96],
             played: 0,
         }
+    }
+
+    // The number of moves of the present line.
+    fn made(&self) -> u32
+        ensures { λ r. ⌜ r ≡ length (lineOf (now (self .entry) .numbers) (now (self .entry) .played)) ⌝ }
+    {
+        self.played as u32
+    }
+
+    // The empty points at the start, as many as the moves of a longest line may be.
+    fn room(&self) -> u32
+        ensures { λ r. ⌜ BoundedBy (atariGo (now (self .entry) .board .n) (now (self .entry) .start)) r ⌝ }
+    {
+        u32::from(empty_count(&self.board, self.start))
     }
 
     // The position of the present line.
@@ -173,7 +188,7 @@ pub impl Game for AtariGo as AtariGoGame {
     }
 
     fn played(&self) -> u32 {
-        self.played as u32
+        self.made()
     }
 
     fn earlier(&self, n: u32) -> Words {
@@ -212,6 +227,6 @@ pub impl Game for AtariGo as AtariGoGame {
 
 pub impl Bounded for AtariGo as AtariGoBounded {
     fn height(&self) -> u32 {
-        u32::from(empty_count(&self.board, self.start))
+        self.room()
     }
 }

@@ -56,7 +56,13 @@ fn print_answer(rt: &LibcRuntime, answer: Answer) -> io::Result<()> {
 }
 
 // The card's line and, unless quiet, what was found on the way to it.
-fn print_settled(rt: &LibcRuntime, o: &Options, number: u32, s: &Settled) -> io::Result<()> {
+fn print_settled(
+    rt: &LibcRuntime,
+    o: &Options,
+    number: u32,
+    tablet: u32,
+    s: &Settled,
+) -> io::Result<()> {
     rt.println(text_of_line(rt.alloc(), &s.line)?)?;
     if let Some(folder) = &o.out {
         let folder = folder.as_str();
@@ -71,7 +77,8 @@ fn print_settled(rt: &LibcRuntime, o: &Options, number: u32, s: &Settled) -> io:
         print_answer(rt, answer)?;
     }
     let digits = hex(rt.alloc(), s.proof.as_slice())?;
-    println!(rt, "  proof {digits}")
+    println!(rt, "  proof {digits}")?;
+    println!(rt, "  checked again with {tablet} slots")
 }
 
 fn print_not_card(rt: &LibcRuntime, number: u32, bad: NotCard) -> io::Result<()> {
@@ -88,11 +95,17 @@ fn posted_bytes(rt: &LibcRuntime, card: &mut Card) -> Result<Option<Vec<u8>>, No
         Posted::Bytes(bytes) => Ok(Some(bytes)),
         Posted::File(name) => {
             let Ok(name) = std::str::from_utf8(name) else {
-                return Err(NotCard { field, why: Why::NoFile });
+                return Err(NotCard {
+                    field,
+                    why: Why::NoFile,
+                });
             };
             match fs::read(rt, name) {
                 Ok(bytes) => Ok(Some(bytes)),
-                Err(_) => Err(NotCard { field, why: Why::NoFile }),
+                Err(_) => Err(NotCard {
+                    field,
+                    why: Why::NoFile,
+                }),
             }
         }
     }
@@ -121,19 +134,29 @@ fn do_card(rt: &LibcRuntime, o: &Options, number: u32, line: &[u8]) -> io::Resul
             Ok(false)
         }
         Ok(Outcome::Settled(settled)) => {
-            print_settled(rt, o, number, &settled)?;
+            print_settled(rt, o, number, card.tablet, &settled)?;
             Ok(true)
         }
         Err(_) => {
             let field = card.slots_field;
-            print_not_card(rt, number, NotCard { field, why: Why::NoMemory })?;
+            print_not_card(
+                rt,
+                number,
+                NotCard {
+                    field,
+                    why: Why::NoMemory,
+                },
+            )?;
             Ok(false)
         }
     }
 }
 
 fn do_batch(rt: &LibcRuntime, o: &Options, text: &[u8]) -> io::Result<Tally> {
-    let mut tally = Tally { printed: 0, refused: 0 };
+    let mut tally = Tally {
+        printed: 0,
+        refused: 0,
+    };
     let mut number: u32 = 0;
     let mut rest = text;
     for _ in 0..text.len() {

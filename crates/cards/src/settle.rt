@@ -1,4 +1,5 @@
-// The calls that are made for a card: the plays of its line, solve, write and check, in one game and one store.
+// The calls that are made for a card, in two sessions: the first settles it with the card's table, the second checks the
+// proof again with a small one. Both lists of calls go through one call that promises what any two sessions promise.
 use crate::card::Card;
 use crate::card::Rules;
 use crate::show::Shown;
@@ -12,6 +13,7 @@ use card_line::print_card;
 use game::interface::Bounded;
 use game::interface::Game;
 use game::interface::Layer;
+use game::interface::rewind;
 use game::refusal::PositionRefusal;
 use game::refusal::Refusal;
 use layers::limit::Limit;
@@ -23,19 +25,18 @@ use layers::repeat::RepeatBounded;
 use layers::repeat::RepeatGame;
 use layers::repeat::RepeatLayer;
 use proof_file::check::CheckedProof;
-use proof_file::check::check;
 use proof_file::fault::Fault;
 use proof_writer::refusal::WriteRefusal;
-use proof_writer::write::write;
 use search::memory::LineRecord;
-use search::solve::solve;
 use search_method::kinds::Answer;
 use search_method::kinds::Pair;
+use session::request::Reply;
+use session::request::Request;
+use session::run::in_two_sessions;
 use std::alloc::AllocError;
 use std::alloc::Global;
 use store::entry::Entry;
 use store::entry::Key;
-use store::interface::Store;
 use store::table::Table;
 use store::table::TableStore;
 
@@ -61,6 +62,23 @@ struct WorkMemory {
     moves: Vec<Pair>,
 }
 
+// A list of requests, with room for their replies.
+#[derive(Drop)]
+struct Sheet {
+    requests: Vec<Request>,
+    replies: Vec<Reply>,
+}
+
+// The games of both sessions, back at their start; both lists with their replies; and the buffer for the proof.
+#[derive(Drop)]
+struct Attempt<G> {
+    game: G,
+    again: G,
+    first: Sheet,
+    second: Sheet,
+    buffer: Vec<u8>,
+}
+
 fn make_memory(heap: Global) -> Result<WorkMemory, AllocError> {
     let pair = Pair { pn: 0, dn: 0 };
     let key = Key {
@@ -81,7 +99,7 @@ fn make_memory(heap: Global) -> Result<WorkMemory, AllocError> {
     })
 }
 
-pub(crate) fn told_position(e: PositionRefusal) -> Told {
+fn told_position(e: PositionRefusal) -> Told {
     Told {
         number: e.number(),
         place: Some(e.place()),
@@ -102,6 +120,194 @@ fn told_fault(f: Fault) -> Told {
     }
 }
 
+fn ask(sheet: &mut Sheet, request: Request) -> Result<(), AllocError> {
+    sheet.requests.push(request)?;
+    sheet.replies.push(Reply::NotMade)?;
+    Ok(())
+}
+
+// The plays of the card's line.
+fn plays_of(heap: Global, moves: &[u32]) -> Result<Sheet, AllocError> {
+    let mut sheet = Sheet {
+        requests: Vec::new(heap),
+        replies: Vec::new(heap),
+    };
+    for k in moves {
+        ask(&mut sheet, Request::Play { k: *k })?;
+    }
+    Ok(sheet)
+}
+
+// What is asked of the first session: the plays of the line; then solve, write and check, or check a posted proof alone.
+fn first_sheet(heap: Global, card: &Card, posted: Option<usize>) -> Result<Sheet, AllocError> {
+    let floor = card.floor;
+    let budget = card.budget;
+    let mut sheet = plays_of(heap, card.line.as_slice())?;
+    if let Some(length) = posted {
+        ask(&mut sheet, Request::Check { length, budget })?;
+        return Ok(sheet);
+    }
+    ask(&mut sheet, Request::Solve { floor, budget })?;
+    ask(&mut sheet, Request::Write { floor, budget })?;
+    ask(&mut sheet, Request::CheckWritten { budget })?;
+    Ok(sheet)
+}
+
+// What is asked of the second session: the plays of the line, and the check.
+fn second_sheet(heap: Global, card: &Card, posted: Option<usize>) -> Result<Sheet, AllocError> {
+    let budget = card.budget;
+    let mut sheet = plays_of(heap, card.line.as_slice())?;
+    match posted {
+        Some(length) => ask(&mut sheet, Request::Check { length, budget })?,
+        None => ask(&mut sheet, Request::CheckWritten { budget })?,
+    }
+    Ok(sheet)
+}
+
+// Makes both lists of calls in two sessions over the card's tables, with this buffer.
+fn attempt<G: Bounded + Drop>(
+    heap: Global,
+    card: &Card,
+    game: G,
+    again: G,
+    posted: Option<usize>,
+    mut buffer: Vec<u8>,
+) -> Result<Attempt<G>, AllocError> {
+    let mut memory = make_memory(heap)?;
+    let mut slots: Vec<Option<Entry>> = vec![in heap; None; card.slots as usize]?;
+    let mut tablet: Vec<Option<Entry>> = vec![in heap; None; card.tablet as usize]?;
+    let mut first = first_sheet(heap, card, posted)?;
+    let mut second = second_sheet(heap, card, posted)?;
+    let (one, two) = in_two_sessions(
+        game,
+        Table::new(slots.as_mut_slice()),
+        first.requests.as_slice(),
+        first.replies.as_mut_slice(),
+        again,
+        Table::new(tablet.as_mut_slice()),
+        second.requests.as_slice(),
+        second.replies.as_mut_slice(),
+        buffer.as_mut_slice(),
+        memory.lines.as_mut_slice(),
+        memory.moves.as_mut_slice(),
+    );
+    let (mut game, _) = one.close();
+    let (mut again, _) = two.close();
+    rewind(&mut game);
+    rewind(&mut again);
+    Ok(Attempt {
+        game,
+        again,
+        first,
+        second,
+        buffer,
+    })
+}
+
+// The last reply of a list, and the one that stood so many before it.
+fn reply_from_end(sheet: &mut Sheet, before: usize) -> Reply {
+    let n = sheet.replies.len();
+    if before >= n {
+        return Reply::NotMade;
+    }
+    std::mem::replace(&mut sheet.replies[n - 1 - before], Reply::NotMade)
+}
+
+// What solving answered, where the card was solved.
+fn solved_by(reply: Reply) -> Result<Option<Answer>, Told> {
+    match reply {
+        Reply::Solved(Answer::OutOfBudget { .. }) => Err(plain(7)),
+        Reply::Solved(answer) => Ok(Some(answer)),
+        Reply::NotSolved(e) => Err(plain(e.number())),
+        _ => Ok(None),
+    }
+}
+
+// The proof that was accepted.
+fn accepted_by(reply: Reply) -> Result<CheckedProof, Told> {
+    match reply {
+        Reply::Accepted(checked) => Ok(checked),
+        Reply::Faulty(fault) => Err(told_fault(fault)),
+        _ => Err(plain(6)),
+    }
+}
+
+// What came of the card: refused by the first call that failed, or its line, printed from the proof that the first session
+// accepted, once the second has accepted it too.
+fn result_of<G: Drop>(
+    number: u32,
+    shown: Shown,
+    posted: bool,
+    tried: Attempt<G>,
+) -> Result<Settled, Told> {
+    let Attempt {
+        game: _,
+        again: _,
+        mut first,
+        mut second,
+        mut buffer,
+    } = tried;
+    let solved = if posted {
+        None
+    } else {
+        solved_by(reply_from_end(&mut first, 2))?
+    };
+    if !posted {
+        if let Reply::NotWritten(e) = reply_from_end(&mut first, 1) {
+            return Err(plain(e.number()));
+        }
+    }
+    let checked = accepted_by(reply_from_end(&mut first, 0))?;
+    let _again = accepted_by(reply_from_end(&mut second, 0))?;
+    buffer.truncate(checked.length());
+    let mut line = [0; 80];
+    print_card(checked, number, &mut line);
+    Ok(Settled {
+        line,
+        shown,
+        solved,
+        proof: buffer,
+    })
+}
+
+// Whether the proof did not fit the buffer.
+fn too_small(sheet: &Sheet) -> bool {
+    let n = sheet.replies.len();
+    if n < 2 {
+        return false;
+    }
+    match &sheet.replies[n - 2] {
+        Reply::NotWritten(WriteRefusal::NoRoom) => true,
+        _ => false,
+    }
+}
+
+// A card without a proof: the buffer grows until the proof fits.
+fn settle_fresh<G: Bounded + Drop>(
+    heap: Global,
+    card: &Card,
+    game: G,
+    again: G,
+) -> Result<Attempt<G>, AllocError> {
+    let mut size: usize = 65536;
+    let mut tried = attempt(heap, card, game, again, None, vec![in heap; 0; size]?)?;
+    for _ in 0..16 {
+        if !too_small(&tried.first) {
+            break;
+        }
+        size = size.saturating_mul(8);
+        let Attempt {
+            game,
+            again,
+            first: _,
+            second: _,
+            buffer: _,
+        } = tried;
+        tried = attempt(heap, card, game, again, None, vec![in heap; 0; size]?)?;
+    }
+    Ok(tried)
+}
+
 // Plays the moves, up to the first that is refused.
 fn play_all<G: Game>(game: &mut G, moves: &[u32]) -> Result<(), Refusal> {
     for k in moves {
@@ -110,124 +316,32 @@ fn play_all<G: Game>(game: &mut G, moves: &[u32]) -> Result<(), Refusal> {
     Ok(())
 }
 
-// A proof of the line's verdict. The buffer grows until the proof fits.
-fn written<G: Bounded, S: Store>(
-    heap: Global,
-    card: &Card,
-    game: &mut G,
-    store: &mut S,
-    memory: &mut WorkMemory,
-) -> Result<Result<Vec<u8>, WriteRefusal>, AllocError> {
-    let mut size: usize = 4096;
-    for _ in 0..32 {
-        let mut buffer = vec![in heap; 0u8; size]?;
-        let answer = write(
-            game,
-            store,
-            card.floor,
-            card.budget,
-            memory.lines.as_mut_slice(),
-            memory.moves.as_mut_slice(),
-            buffer.as_mut_slice(),
-        );
-        match answer {
-            Ok(done) => {
-                buffer.truncate(done.length);
-                return Ok(Ok(buffer));
-            }
-            Err(WriteRefusal::NoRoom) => size = size.saturating_mul(8),
-            Err(e) => return Ok(Err(e)),
-        }
-    }
-    Ok(Err(WriteRefusal::NoRoom))
-}
-
-// The card's line from a proof that was checked, with all that is shown below it.
-fn settle_with(
-    number: u32,
-    shown: Shown,
-    solved: Option<Answer>,
-    proof: Vec<u8>,
-    checked: CheckedProof,
-) -> Outcome {
-    let mut line = [0; 80];
-    print_card(checked, number, &mut line);
-    Outcome::Settled(Settled {
-        line,
-        shown,
-        solved,
-        proof,
-    })
-}
-
-// Checks a proof at the present line.
-fn check_proof<G: Bounded>(
-    card: &Card,
-    game: &mut G,
-    memory: &mut WorkMemory,
-    proof: &[u8],
-) -> Result<CheckedProof, Fault> {
-    check(
-        game,
-        proof,
-        card.budget,
-        memory.lines.as_mut_slice(),
-        memory.moves.as_mut_slice(),
-    )
-}
-
-// Solves the present line, writes its proof and checks it.
-fn fresh<G: Bounded, S: Store>(
-    heap: Global,
-    card: &Card,
-    number: u32,
-    shown: Shown,
-    game: &mut G,
-    store: &mut S,
-    memory: &mut WorkMemory,
-) -> Result<Outcome, AllocError> {
-    let solved = match solve(
-        game,
-        store,
-        card.floor,
-        card.budget,
-        memory.lines.as_mut_slice(),
-        memory.moves.as_mut_slice(),
-    ) {
-        Err(e) => return Ok(Outcome::Refused(plain(e.number()))),
-        Ok(Answer::OutOfBudget { .. }) => return Ok(Outcome::Refused(plain(7))),
-        Ok(answer) => answer,
-    };
-    let proof = match written(heap, card, game, store, memory)? {
-        Err(e) => return Ok(Outcome::Refused(plain(e.number()))),
-        Ok(proof) => proof,
-    };
-    match check_proof(card, game, memory, proof.as_slice()) {
-        Err(f) => Ok(Outcome::Refused(told_fault(f))),
-        Ok(checked) => Ok(settle_with(number, shown, Some(solved), proof, checked)),
-    }
-}
-
+// What the card comes to over its game, of which `again` is another. The line is tried first, so that a card whose moves
+// are refused opens no session.
 fn settle<G: Bounded + Drop>(
     heap: Global,
     card: &Card,
     number: u32,
     mut game: G,
+    again: G,
     posted: Option<Vec<u8>>,
 ) -> Result<Outcome, AllocError> {
     if let Err(e) = play_all(&mut game, card.line.as_slice()) {
         return Ok(Outcome::Refused(plain(e.number())));
     }
     let shown = look_at(board_size(card.position), &game);
-    let mut memory = make_memory(heap)?;
-    let Some(proof) = posted else {
-        let mut slots: Vec<Option<Entry>> = vec![in heap; None; card.slots as usize]?;
-        let mut table = Table::new(slots.as_mut_slice());
-        return fresh(heap, card, number, shown, &mut game, &mut table, &mut memory);
+    rewind(&mut game);
+    let posts = posted.is_some();
+    let tried = match posted {
+        Some(proof) => {
+            let length = proof.len();
+            attempt(heap, card, game, again, Some(length), proof)?
+        }
+        None => settle_fresh(heap, card, game, again)?,
     };
-    match check_proof(card, &mut game, &mut memory, proof.as_slice()) {
-        Err(f) => Ok(Outcome::Refused(told_fault(f))),
-        Ok(checked) => Ok(settle_with(number, shown, None, proof, checked)),
+    match result_of(number, shown, posts, tried) {
+        Ok(settled) => Ok(Outcome::Settled(settled)),
+        Err(told) => Ok(Outcome::Refused(told)),
     }
 }
 
@@ -239,6 +353,10 @@ fn board_size(position: &[u8]) -> u32 {
     }
 }
 
+fn read_twice(position: &[u8]) -> Result<(AtariGo, AtariGo), PositionRefusal> {
+    Ok((AtariGo::read(position)?, AtariGo::read(position)?))
+}
+
 // What the card comes to, under its rules.
 pub(crate) fn settle_card(
     heap: Global,
@@ -246,19 +364,41 @@ pub(crate) fn settle_card(
     number: u32,
     posted: Option<Vec<u8>>,
 ) -> Result<Outcome, AllocError> {
-    let game = match AtariGo::read(card.position) {
-        Ok(game) => game,
+    let (g, h) = match read_twice(card.position) {
+        Ok(games) => games,
         Err(e) => return Ok(Outcome::Refused(told_position(e))),
     };
     match card.rules {
-        Rules::Plain => settle(heap, card, number, game, posted),
-        Rules::Repeat => settle(heap, card, number, Repeat::over(game, ()), posted),
-        Rules::Limit(n) => settle(heap, card, number, Limit::over(game, n), posted),
+        Rules::Plain => settle(heap, card, number, g, h, posted),
+        Rules::Repeat => {
+            settle(
+                heap,
+                card,
+                number,
+                Repeat::over(g, ()),
+                Repeat::over(h, ()),
+                posted,
+            )
+        }
+        Rules::Limit(n) => {
+            settle(
+                heap,
+                card,
+                number,
+                Limit::over(g, n),
+                Limit::over(h, n),
+                posted,
+            )
+        }
         Rules::RepeatThenLimit(n) => {
-            settle(heap, card, number, Limit::over(Repeat::over(game, ()), n), posted)
+            let game = Limit::over(Repeat::over(g, ()), n);
+            let again = Limit::over(Repeat::over(h, ()), n);
+            settle(heap, card, number, game, again, posted)
         }
         Rules::LimitThenRepeat(n) => {
-            settle(heap, card, number, Repeat::over(Limit::over(game, n), ()), posted)
+            let game = Repeat::over(Limit::over(g, n), ());
+            let again = Repeat::over(Limit::over(h, n), ());
+            settle(heap, card, number, game, again, posted)
         }
     }
 }

@@ -151,9 +151,10 @@ module _ (m n : Meaning) (H G : ℕ) (lawful : Lawful m) (law : BoundedBy m H) (
 -- to be bisimilar, though said from one side, holds from both
 pub bisimilar-back : (m n : Meaning) (p q : Line) → Reachable m p → Bisimilar m p n q → Bisimilar n q m p
 bisimilar-back m n p q r alike w s =
-    let same = alike w (back w s) .1 in
-    (back w s,
-    record { turn = sym (same .turn); moves = sym (same .moves); score = sym (same .score); a = sym (same .a); b = sym (same .b) })
+    let same = alike w (back w s) .1 in (
+      back w s,
+      record { turn = sym (same .turn); moves = sym (same .moves); score = sym (same .score); a = sym (same .a); b = sym (same .b) },
+    )
   where
     back : (w : Line) → Reachable n (w ++ q) → Reachable m (w ++ p)
     back [] s = r

@@ -80,24 +80,21 @@ spread-next n (suc k) g e more =
     enough k n (suc k) (grown n (suc k) g) (grown-within n (suc k) g) (omega (arith, grows n (suc k) g e, more))
     ∙ sym (spread-go k n (suc k) g more)
 
--- a turn of the loop, where a is what it found around g
-module _ (n s g a : ℕ) (found : a ≡ around n g) (inside : bitAnd g s ≡ g) (more : bitAnd s (bitOr g a) ≡ g → ⊥) where
-  next : bitAnd s (bitOr g a) ≡ grown n s g
-  next = ap (λ (x : ℕ). bitAnd s (bitOr g x)) found
-
-  pub turn-less : s - bitAnd s (bitOr g a) < s - g
+-- a turn of the loop, where h is g grown
+module _ (n s g h : ℕ) (found : h ≡ grown n s g) (inside : bitAnd g s ≡ g) (more : h ≡ g → ⊥) where
+  pub turn-less : s - h < s - g
   turn-less =
-      subst (λ (x : ℕ). s - x < s - g) (sym next)
-      (omega (arith, grows n s g inside, grown-le n s g, λ (e : grown n s g ≡ g). more (next ∙ e)))
+      subst (λ (x : ℕ). s - x < s - g) (sym found)
+      (omega (arith, grows n s g inside, grown-le n s g, λ (e : grown n s g ≡ g). more (found ∙ e)))
 
-  pub turn-within : bitAnd (bitAnd s (bitOr g a)) s ≡ bitAnd s (bitOr g a)
-  turn-within = subst (λ (x : ℕ). bitAnd x s ≡ x) (sym next) (grown-within n s g)
+  pub turn-within : bitAnd h s ≡ h
+  turn-within = subst (λ (x : ℕ). bitAnd x s ≡ x) (sym found) (grown-within n s g)
 
-  pub turn-spread : spread s n s (bitAnd s (bitOr g a)) ≡ spread s n s g
-  turn-spread = ap (spread s n s) next ∙ spread-next n s g inside (λ e. more (next ∙ e))
+  pub turn-spread : spread s n s h ≡ spread s n s g
+  turn-spread = ap (spread s n s) found ∙ spread-next n s g inside (λ e. more (found ∙ e))
 
-pub turn-stops : (n s g a f : ℕ) → a ≡ around n g → bitAnd s (bitOr g a) ≡ g → spread s n s g ≡ reach n s f → g ≡ reach n s f
-turn-stops n s g a f found still inv = sym (spread-stop s n s g (ap (λ (x : ℕ). bitAnd s (bitOr g x)) (sym found) ∙ still)) ∙ inv
+pub turn-stops : (n s g h f : ℕ) → h ≡ grown n s g → h ≡ g → spread s n s g ≡ reach n s f → g ≡ reach n s f
+turn-stops n s g h f found still inv = sym (spread-stop s n s g (sym found ∙ still)) ∙ inv
 
 -- growth stays within s
 spread-le : (k n s g : ℕ) → g ≤ s → spread k n s g ≤ s

@@ -2,5 +2,4 @@ pub mod Groups
 pub mod Rules
 pub mod Play
 pub mod Text
-pub mod Cases
 pub mod Rulebook

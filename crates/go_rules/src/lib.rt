@@ -5,7 +5,6 @@
 // and the legal moves, `turn` the position after a move, `text` the position of a text. specs/ has the definitions and the
 // rules in the game's own words, and `theorems` says that the game keeps them.
 pub mod board;
-pub mod cases;
 pub mod place;
 pub mod rules;
 pub mod text;

@@ -9,12 +9,27 @@ ghost use Rattle.go_rules.specs.Rules.{freeOf, living, Living, groupOf, libert
 use crate::board::Board;
 use point_sets::points::has_point;
 
+// The points of the board in neither of two sets.
+fn in_neither(board: &Board, s: u64, t: u64) -> u64
+    ensures { λ r. ⌜ r ≡ freeOf (now (board .entry) .n) s t ⌝ }
+{
+    let either = s | t;
+    (board.all | either) ^ either
+}
+
 // The empty points, where s and t are the stones.
 pub fn free_points(board: &Board, s: u64, t: u64) -> u64
     ensures { λ r. ⌜ r ≡ freeOf (now (board .entry) .n) s t ⌝ }
 {
-    let stones = s | t;
-    (board.all | stones) ^ stones
+    in_neither(board, s, t)
+}
+
+// The points of s that are joined within s to a neighbour of free.
+fn joined_beside(board: &Board, s: u64, free: u64) -> u64
+    ensures is { λ r. ⌜ r ≡ living (now (board .entry) .n) s free ⌝ }
+    ensures live { λ r. ⌜ (OnBoard (now (board .entry) .n) s → OnBoard (now (board .entry) .n) free → Living (now (board .entry) .n) s free r) ⌝ }
+{
+    board.reach(s, board.around(free))
 }
 
 // The stones of s whose groups have a liberty in free.
@@ -22,7 +37,16 @@ pub fn living_stones(board: &Board, s: u64, free: u64) -> u64
     ensures is { λ r. ⌜ r ≡ living (now (board .entry) .n) s free ⌝ }
     ensures live { λ r. ⌜ (OnBoard (now (board .entry) .n) s → OnBoard (now (board .entry) .n) free → Living (now (board .entry) .n) s free r) ⌝ }
 {
-    board.reach(s, board.around(free))
+    joined_beside(board, s, free)
+}
+
+// The group of a stone on p among the stones s.
+fn joined_to(board: &Board, s: u64, p: u32) -> u64
+    requires { ⌜ has s p ≡ true ⌝ }
+    ensures is { λ r. ⌜ r ≡ groupOf (now (board .entry) .n) s p ⌝ }
+    ensures joined { λ r. ⌜ (OnBoard (now (board .entry) .n) s → Group (now (board .entry) .n) s p r) ⌝ }
+{
+    board.reach(s, 1 << p)
 }
 
 // The group of the stone on p among the stones s; empty where there is no stone on p.
@@ -31,10 +55,18 @@ pub fn group_of(board: &Board, s: u64, p: u32) -> u64
     ensures joined { λ r. ⌜ (OnBoard (now (board .entry) .n) s → Group (now (board .entry) .n) s p r) ⌝ }
 {
     if has_point(s, p) {
-        board.reach(s, 1 << p)
+        joined_to(board, s, p)
     } else {
         0
     }
+}
+
+// The points of free beside the group of p among the stones s.
+fn beside_group(board: &Board, s: u64, free: u64, p: u32) -> u64
+    ensures is { λ r. ⌜ r ≡ libertiesOf (now (board .entry) .n) s free p ⌝ }
+    ensures beside { λ r. ⌜ (OnBoard (now (board .entry) .n) s → Liberties (now (board .entry) .n) s free p r) ⌝ }
+{
+    free & board.around(group_of(board, s, p))
 }
 
 // The liberties of the group of p among the stones s, where the points of free are empty.
@@ -42,7 +74,7 @@ pub fn liberties_of(board: &Board, s: u64, free: u64, p: u32) -> u64
     ensures is { λ r. ⌜ r ≡ libertiesOf (now (board .entry) .n) s free p ⌝ }
     ensures beside { λ r. ⌜ (OnBoard (now (board .entry) .n) s → Liberties (now (board .entry) .n) s free p r) ⌝ }
 {
-    free & board.around(group_of(board, s, p))
+    beside_group(board, s, free, p)
 }
 
 // Whether a stone on p leaves its own group a liberty or takes an enemy group's last; `before` are the enemy stones that have one now.

@@ -7,6 +7,7 @@ mod tests {
     use game::interface::Bounded;
     use game::interface::Game;
     use game::kinds::Score;
+    use game::refusal::Refusal;
     use std::test::*;
 
     // The number of the refusal of a text and its place; 0 and 0 where it is read.
@@ -22,6 +23,14 @@ mod tests {
         match AtariGo::read(text) {
             Ok(game) => (game.moves(), game.height()),
             Err(_) => (255, 255),
+        }
+    }
+
+    // The number of a refused call; 0 of one that was done.
+    fn answer(done: Result<(), Refusal>) -> u8 {
+        match done {
+            Ok(_) => 0,
+            Err(e) => e.number(),
         }
     }
 
@@ -111,12 +120,12 @@ mod tests {
         match AtariGo::read(b"G3:B:WB.......") {
             Ok(g) => {
                 let mut game = g;
-                check(game.take_back().is_err())?;
-                check(game.play(1).is_ok())?;
-                check(game.play(0).is_err())?;
+                check_eq(answer(game.take_back()), 4)?;
+                check_eq(answer(game.play(1)), 0)?;
+                check_eq(answer(game.play(0)), 2)?;
                 check_eq(game.level(), 6)?;
                 check_eq(game.earlier(0).a, 2)?;
-                check(game.take_back().is_ok())?;
+                check_eq(answer(game.take_back()), 0)?;
                 check_eq(game.a(), 2)?;
                 check_eq(game.played(), 0)
             }

@@ -1,10 +1,7 @@
 use native.Mathlib.Nat.{lt-of-lt-of-le, pow-le-pow-right}
 use lib.Dec.{lit≤}
-use Rattle.point_sets.proofs.Lists.{ones-list, count-low}
+use Rattle.point_sets.proofs.Lists.{ones-list}
 use Rattle.point_sets.proofs.points.count_points.Needs as need
-
-pub returns-then-size-lt64 : need.returns-then-size-lt64
-returns-then-size-lt64 c = count-low (c .args .size) (c .args .m) (c .if-size-lt64 .taken)
 
 pub returns-else-size-lt64 : need.returns-else-size-lt64
 returns-else-size-lt64 c =

@@ -1,10 +1,7 @@
 use mathlib.Core.Path.{sym, _∙_}
 use Rattle.std.proofs.shelf.Tests.{le-ltb}
-use Rattle.point_sets.proofs.Sets.{has-test, has-none}
+use Rattle.point_sets.proofs.Sets.{has-none}
 use Rattle.point_sets.proofs.points.has_point.Needs as need
-
-pub returns-then-p-lt64 : need.returns-then-p-lt64
-returns-then-p-lt64 c = has-test (c .args .m) (c .args .p)
 
 pub returns-else-p-lt64 : need.returns-else-p-lt64
 returns-else-p-lt64 c =

@@ -1,0 +1,3 @@
+pub mod Life
+pub mod Promise
+pub mod Example
