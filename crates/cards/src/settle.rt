@@ -71,7 +71,7 @@ struct Sheet {
 
 // The games of both sessions, back at their start; both lists with their replies; and the buffer for the proof.
 #[derive(Drop)]
-struct Attempt<G> {
+struct Trial<G> {
     game: G,
     again: G,
     first: Sheet,
@@ -172,7 +172,7 @@ fn attempt<G: Bounded + Drop>(
     again: G,
     posted: Option<usize>,
     mut buffer: Vec<u8>,
-) -> Result<Attempt<G>, AllocError> {
+) -> Result<Trial<G>, AllocError> {
     let mut memory = make_memory(heap)?;
     let mut slots: Vec<Option<Entry>> = vec![in heap; None; card.slots as usize]?;
     let mut tablet: Vec<Option<Entry>> = vec![in heap; None; card.tablet as usize]?;
@@ -195,7 +195,7 @@ fn attempt<G: Bounded + Drop>(
     let (mut again, _) = two.close();
     rewind(&mut game);
     rewind(&mut again);
-    Ok(Attempt {
+    Ok(Trial {
         game,
         again,
         first,
@@ -238,9 +238,9 @@ fn result_of<G: Drop>(
     number: u32,
     shown: Shown,
     posted: bool,
-    tried: Attempt<G>,
+    tried: Trial<G>,
 ) -> Result<Settled, Told> {
-    let Attempt {
+    let Trial {
         game: _,
         again: _,
         mut first,
@@ -288,7 +288,7 @@ fn settle_fresh<G: Bounded + Drop>(
     card: &Card,
     game: G,
     again: G,
-) -> Result<Attempt<G>, AllocError> {
+) -> Result<Trial<G>, AllocError> {
     let mut size: usize = 65536;
     let mut tried = attempt(heap, card, game, again, None, vec![in heap; 0; size]?)?;
     for _ in 0..16 {
@@ -296,7 +296,7 @@ fn settle_fresh<G: Bounded + Drop>(
             break;
         }
         size = size.saturating_mul(8);
-        let Attempt {
+        let Trial {
             game,
             again,
             first: _,

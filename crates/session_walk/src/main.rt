@@ -4,8 +4,7 @@
 use game::interface::Bounded;
 use game::interface::Game;
 use game::interface::Layer;
-use game::kinds::Score;
-use game::kinds::Side;
+use game::refusal::PositionRefusal;
 use graph::graph::Graph;
 use graph::graph::GraphGame;
 use graph_rules::node::Node;
@@ -55,6 +54,25 @@ impl Dice {
     }
 }
 
+// What can go wrong on the way: no memory, or a random graph that is not one.
+#[derive(Clone, Copy, Debug)]
+enum Failure {
+    NoMemory,
+    NoGraph,
+}
+
+impl From<AllocError> for Failure as FailureFromAlloc {
+    fn from(_e: AllocError) -> Failure {
+        Failure::NoMemory
+    }
+}
+
+impl From<PositionRefusal> for Failure as FailureFromPosition {
+    fn from(_e: PositionRefusal) -> Failure {
+        Failure::NoGraph
+    }
+}
+
 // What was done and found.
 #[derive(Clone, Copy)]
 struct Tally {
@@ -101,13 +119,13 @@ fn random_node(dice: &mut Dice, size: u8) -> Node {
     Node {
         turn,
         score: 255,
-        count: 1 + dice.byte(3),
+        count: dice.byte(3).saturating_add(1),
         targets: [dice.byte(size), dice.byte(size), dice.byte(size), 0],
     }
 }
 
 fn random_graph(heap: Global, dice: &mut Dice) -> Result<Vec<Node>, AllocError> {
-    let size = 2 + dice.byte(7);
+    let size = dice.byte(7).saturating_add(2);
     let mut nodes = Vec::new(heap);
     for _ in 0..size {
         nodes.push(random_node(dice, size))?;
@@ -119,7 +137,7 @@ fn random_request(dice: &mut Dice) -> Request {
     let floor = if dice.below(12) == 0 {
         dice.below(4)
     } else {
-        1 + dice.below(2)
+        dice.below(2).saturating_add(1)
     };
     let budget = if dice.below(3) == 0 {
         dice.below(40)
@@ -253,38 +271,38 @@ fn two_sessions<G: Bounded + Drop>(
     Ok(())
 }
 
-// A random graph under random layers.
-fn one_case(heap: Global, dice: &mut Dice, tally: &mut Tally) -> Result<(), AllocError> {
-    let nodes = random_graph(heap, dice)?;
-    let n = 1 + dice.below(7);
-    let (Ok(a), Ok(b), Ok(c), Ok(d)) = (
-        Graph::new(nodes.as_slice()),
-        Graph::new(nodes.as_slice()),
-        Graph::new(nodes.as_slice()),
-        Graph::new(nodes.as_slice()),
-    ) else {
-        return Ok(());
-    };
+// Two sessions over a graph under layers: repetition under a limit, or the other way about.
+fn layered(
+    heap: Global,
+    dice: &mut Dice,
+    nodes: &[Node],
+    tally: &mut Tally,
+) -> Result<(), Failure> {
+    let n = dice.below(7).saturating_add(1);
+    let a = Graph::new(nodes)?;
+    let b = Graph::new(nodes)?;
+    let c = Graph::new(nodes)?;
+    let d = Graph::new(nodes)?;
     if dice.below(3) == 0 {
-        return two_sessions(
-            heap,
-            dice,
-            Repeat::over(Limit::over(a, n), ()),
-            Repeat::over(Limit::over(b, n), ()),
-            Repeat::over(Limit::over(c, n), ()),
-            Repeat::over(Limit::over(d, n), ()),
-            tally,
-        );
+        let first = Repeat::over(Limit::over(a, n), ());
+        let second = Repeat::over(Limit::over(b, n), ());
+        let third = Repeat::over(Limit::over(c, n), ());
+        let fourth = Repeat::over(Limit::over(d, n), ());
+        two_sessions(heap, dice, first, second, third, fourth, tally)?;
+    } else {
+        let first = Limit::over(Repeat::over(a, ()), n);
+        let second = Limit::over(Repeat::over(b, ()), n);
+        let third = Limit::over(Repeat::over(c, ()), n);
+        let fourth = Limit::over(Repeat::over(d, ()), n);
+        two_sessions(heap, dice, first, second, third, fourth, tally)?;
     }
-    two_sessions(
-        heap,
-        dice,
-        Limit::over(Repeat::over(a, ()), n),
-        Limit::over(Repeat::over(b, ()), n),
-        Limit::over(Repeat::over(c, ()), n),
-        Limit::over(Repeat::over(d, ()), n),
-        tally,
-    )
+    Ok(())
+}
+
+// A random graph under random layers.
+fn one_case(heap: Global, dice: &mut Dice, tally: &mut Tally) -> Result<(), Failure> {
+    let nodes = random_graph(heap, dice)?;
+    layered(heap, dice, nodes.as_slice(), tally)
 }
 
 // The number of cases that the first argument asks for.
@@ -310,7 +328,11 @@ fn walk_all(rt: &LibcRuntime) -> Result<(), AnyError> {
         wrong: 0,
     };
     for _ in 0..cases {
-        one_case(rt.alloc(), &mut dice, &mut tally)?;
+        match one_case(rt.alloc(), &mut dice, &mut tally) {
+            Ok(()) => {}
+            Err(Failure::NoMemory) => return Err("no memory".into()),
+            Err(Failure::NoGraph) => return Err("a graph was refused".into()),
+        }
     }
     let calls = tally.calls;
     let verdicts = tally.verdicts;
