@@ -77,7 +77,7 @@ impl<const N: usize> Board<N> {
         (set << N & Self::ALL) | set >> N | (set & Self::NOT_LAST) << 1 | (set & Self::NOT_FIRST) >> 1
     }
 
-    /// The stones that are joined with the seed.
+    /// The stones that are joined with the first one.
     #[inline]
     fn flood(seed: u64, stones: u64) -> u64 {
         let mut group = seed & stones;
