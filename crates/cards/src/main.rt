@@ -1,6 +1,7 @@
 // Reads a batch of cards, one a line, and prints what each comes to: its position is solved, a proof is written, and the
 // card's line is printed from the proof once it is checked. docs/CARDS.md has the input and the output.
 mod card;
+mod help;
 mod input;
 mod options;
 mod settle;
@@ -12,6 +13,7 @@ use card::Posted;
 use card::Why;
 use card::card_of;
 use card::is_card;
+use help::HELP;
 use input::all_bytes;
 use input::cut_line;
 use input::without_return;
@@ -179,6 +181,10 @@ fn do_batch(rt: &LibcRuntime, o: &Options, text: &[u8]) -> io::Result<Tally> {
 
 fn run_batch(rt: &LibcRuntime) -> Result<(), AnyError> {
     let o = read_options(rt)?;
+    if o.help {
+        rt.println(HELP)?;
+        return Ok(());
+    }
     let text = all_bytes(rt, &o.file)?;
     let tally = do_batch(rt, &o, text.as_slice())?;
     let printed = tally.printed;
