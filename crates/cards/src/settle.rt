@@ -289,7 +289,7 @@ fn settle_fresh<G: Bounded + Drop>(
     game: G,
     again: G,
 ) -> Result<Trial<G>, AllocError> {
-    let mut size: usize = 65536;
+    let mut size: usize = 1_048_576;
     let mut tried = attempt(heap, card, game, again, None, vec![in heap; 0; size]?)?;
     for _ in 0..16 {
         if !too_small(&tried.first) {
