@@ -2,4 +2,6 @@
 //
 // `AtariGo` is read from the text of a position. It keeps the positions of all prefixes of its line, so that a move is taken
 // back by forgetting the newest; each position has its legal moves with it.
-pub mod game;
+#![tactic(auto)]
+
+pub mod atari;

@@ -2,6 +2,8 @@
 //
 // `print_card` prints it from a checked proof and from nothing else. The text takes at most 79 bytes, so there is always
 // room.
+#![tactic(auto)]
+
 ghost use Rattle.std.specs.Prelude.{◌≡◌, ◌≤◌};
 ghost use Rattle.card_line.specs.Lines.{Fits, card_text, claim_text, lined, verdict_word};
 ghost use Rattle.card_line.specs.Written.{LineIs};

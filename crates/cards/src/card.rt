@@ -236,7 +236,7 @@ fn take_rule<'a>(
     seen: &mut Seen,
     word: &'a [u8],
 ) -> Result<(), Why> {
-    if word == b"repeat" {
+    if word == b"repeat".as_slice() {
         once(&mut seen.repeat)?;
         card.rules = with_repeat(card.rules);
         return Ok(());

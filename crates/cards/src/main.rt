@@ -1,5 +1,7 @@
 // Reads a batch of cards, one a line, and prints what each comes to: its position is solved, a proof is written, and the
 // card's line is printed from the proof once it is checked. docs/CARDS.md has the input and the output.
+#![tactic(auto)]
+
 mod card;
 mod help;
 mod input;

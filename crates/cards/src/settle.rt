@@ -2,7 +2,7 @@
 // proof again with a small one. Both lists of calls go through one call that promises what any two sessions promise.
 use crate::card::{Card, Rules};
 use crate::show::{Shown, Told, look_at, plain};
-use atari_go::game::AtariGo;
+use atari_go::atari::AtariGo;
 use card_line::print_card;
 use game::interface::{Bounded, Game, Layer, rewind};
 use game::refusal::{PositionRefusal, Refusal};

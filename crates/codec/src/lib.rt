@@ -3,6 +3,8 @@
 // Seven bits a byte, the lowest first; every byte but the last has 128 added. 300 is AC 02. A number has exactly one form, the
 // shortest. `read_number` reads the `Number` at a place of a row of bytes and tells the place after it, or refuses;
 // `put_number` puts one there if it fits, and else writes nothing. `numbers_are_faithful` says that the two agree.
+#![tactic(auto)]
+
 ghost use Rattle.std.specs.Prelude.{◌≡◌, ◌*◌, ◌^◌, ◌<◌, ◌≤◌, length, drop, MatchOption};
 ghost use Rattle.codec.specs.Files.{joined_to, number_at, spelled_out, end_after, with_bytes};
 ghost use Rattle.codec.specs.Numbers.{Faithful, encode, shortest, digits as digits_of};

@@ -1,4 +1,5 @@
 // Tests of reading and putting numbers, with bytes worked out by hand.
+#![tactic(auto)]
 
 #[cfg(test)]
 mod tests {

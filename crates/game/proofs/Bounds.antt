@@ -1,5 +1,5 @@
 -- Where a bounded game goes on there is room for a move, at the present line of any value.
-use Rattle.std.proofs.Common.{◌≡◌, ℕ, ◌<◌, ◌≤◌, Bool, true, false, length, is_some, IsSomeAnd, Some, None, Option, refl, subst, arith}
+use Rattle.std.proofs.Common.{◌≡◌, ℕ, ◌<◌, Bool, true, false, length, is_some, IsSomeAnd, Option, refl, subst, arith}
 use Rattle.game.specs.Meaning.{Line, Meaning}
 use Rattle.game.specs.Laws.{Present, BoundedBy, Bounded, Room}
 use Rattle.game.specs.Refusals.{play_answer}

@@ -1,8 +1,7 @@
 -- What the answer to a play says of the line, and the line after it.
-use Rattle.std.proofs.Common.{◌≡◌, ℕ, zero, suc, ◌<◌, ◌≤◌, Bool, true, false, leb, List, [], ◌∷◌, length, is_some, sym, refl, ap, ◌∙◌, subst, ⊎_elim, arith, le-leb, leb-false}
+use Rattle.std.proofs.Common.{◌≡◌, ℕ, zero, suc, ◌<◌, ◌≤◌, Bool, true, false, leb, List, [], ◌∷◌, length, is_some, refl, ap, arith, le-leb, leb-false}
 use borrow.Author.Tests.{lt-leb}
-use Rattle.std.proofs.lemmas.Bool.{cases_eq}
-use Rattle.game.specs.Meaning.{Line, Meaning, Reachable}
+use Rattle.game.specs.Meaning.{Meaning, Reachable}
 use Rattle.game.specs.Refusals.{first_against, play_answer, line_after, played_line, shorter}
 
 pub record Legal (m : Meaning) (l : List ℕ) (k : ℕ) : Type 0 where

@@ -3,9 +3,9 @@ use Rattle.std.proofs.Common.{◌≡◌, ℕ, zero, suc, ◌+◌, ◌<◌, ◌�
 use native.Mathlib.Decide.{dec_le}
 use lib.Dec.{nleb→lt}
 use Rattle.game.specs.Kinds.{Side, Score, is_black, points}
-use Rattle.game.specs.Meaning.{Line, View, Meaning, Reachable, Same, Bisimilar}
+use Rattle.game.specs.Meaning.{Line, Meaning, Reachable, Same, Bisimilar}
 use Rattle.game.specs.Laws.{Lawful, BoundedBy}
-use Rattle.game.specs.Value.{greatest, least, best, score_or, black_moves, value}
+use Rattle.game.specs.Value.{greatest, least, best, black_moves, value}
 
 pub value_over : (m : Meaning) (h : ℕ) (l : Line) (s : Score) → (m.view l).score ≡ Some s → value m h l ≡ points s
 unfolding value

@@ -2,6 +2,8 @@
 //
 // A line is the list of the moves played from the start. A game has one present line; `play` lengthens it and
 // `take_back` shortens it, and every query is about it. specs/ says what a game means, whatever it is made of.
+#![tactic(auto)]
+
 pub mod interface;
 pub mod kinds;
 pub mod refusal;

@@ -1,6 +1,8 @@
 // How fast plays are: walks the game tree of a position depth first, playing and taking back every move, up to a number of
 // plays, and prints how many it made. The number is the first argument, or 200000.
-use atari_go::game::AtariGo;
+#![tactic(auto)]
+
+use atari_go::atari::AtariGo;
 use game::interface::Game;
 use std::{env, io};
 

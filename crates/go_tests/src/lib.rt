@@ -1,7 +1,9 @@
 // Atari Go on examples, worked out by hand: texts that are refused, captures, ends, and calls that are refused.
+#![tactic(auto)]
+
 #[cfg(test)]
 mod tests {
-    use atari_go::game::AtariGo;
+    use atari_go::atari::AtariGo;
     use game::interface::{Bounded, Game};
     use game::kinds::Score;
     use game::refusal::Refusal;

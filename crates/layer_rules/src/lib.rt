@@ -3,4 +3,6 @@
 // specs/Layers says what Limit and Repeat make of a game, specs/Theorems what follows; proofs/ shows that both keep
 // the laws of every game below. The only code are functions whose contracts name the theorems. The layers that are
 // played stand in the crate `layers`.
+#![tactic(auto)]
+
 pub mod theorems;

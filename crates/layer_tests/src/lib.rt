@@ -1,4 +1,6 @@
 // Tests of the rule layers and of the game graph, on small graphs whose answers are worked out by hand.
+#![tactic(auto)]
+
 #[cfg(test)]
 mod tests {
     use game::interface::{Bounded, Game, Layer};

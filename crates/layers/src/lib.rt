@@ -5,5 +5,7 @@
 // and takes the game below back to its empty line. What each layer means is a function of what the game below means:
 // `limited` and `repeated` in layer_rules. A limited game is bounded by its limit, and Repeat keeps a bounded game's
 // height, so both orders of the two layers can be solved.
+#![tactic(auto)]
+
 pub mod limit;
 pub mod repeat;

@@ -3,6 +3,8 @@
 // specs/Life has the calls of a session, what each answers, and how a life goes on from its opening by any of them.
 // specs/Promise says clause by clause what any two sessions promise each other, over any lawful bounded games and any
 // stores, and specs/Example has two short lives. Each function here states one theorem.
+#![tactic(auto)]
+
 ghost use Rattle.life.specs.Example.{TwoLive, UnclearedLies};
 ghost use Rattle.life.specs.Promise.{Promised};
 

@@ -6,6 +6,8 @@
 // is proved of them: `Theorems` of check, `Writing` of write over a sound store.
 //
 // The types that check and write share are `Claim` and `State`. Each other function here states one theorem.
+#![tactic(auto)]
+
 pub mod claim;
 
 ghost use Rattle.proof_method.specs.Theorems.{AcceptsProofs, ClaimsTrue, BisimilarChecked};

@@ -8,6 +8,8 @@
 // Behind it, each part of the code does one part of the definition: `simulation` tests a verdict that was found by
 // another path, `evaluation` judges each move of a line, `expansion` expands the most promising move, turn after turn.
 // `pairs` has the proof and disproof numbers, `line` reads and moves the game, `budget` counts the plays.
+#![tactic(auto)]
+
 mod budget;
 mod evaluation;
 mod expansion;

@@ -105,7 +105,7 @@ impl fmt::Display for Reply {
 // The moves of a line, with commas between them; a dash for the empty line.
 fn line_of(heap: Global, text: &[u8]) -> Result<Vec<u32>, Trouble> {
     let mut line = Vec::new(heap);
-    if text == b"-" {
+    if text == b"-".as_slice() {
         return Ok(line);
     }
     let mut rest = text;
@@ -156,13 +156,13 @@ fn check_of(heap: Global, text: &[u8]) -> Result<Asked, Trouble> {
 }
 
 fn asked_of(heap: Global, call: &[u8], terms: &[u8]) -> Result<Asked, Trouble> {
-    if call == b"solve" {
+    if call == b"solve".as_slice() {
         return solve_of(terms).ok_or(Trouble::Malformed);
     }
-    if call == b"write" {
+    if call == b"write".as_slice() {
         return write_of(terms).ok_or(Trouble::Malformed);
     }
-    if call == b"check" {
+    if call == b"check".as_slice() {
         return check_of(heap, terms);
     }
     Err(Trouble::Malformed)

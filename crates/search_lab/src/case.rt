@@ -45,7 +45,7 @@ fn with_limit(rules: Rules, n: u32) -> Option<Rules> {
 
 // Takes in a field that stands before the questions.
 fn take_field(case: &mut Case<'_>, field: &[u8]) -> Option<()> {
-    if field == b"repeat" {
+    if field == b"repeat".as_slice() {
         case.rules = with_repeat(case.rules)?;
         return Some(());
     }

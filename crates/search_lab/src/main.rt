@@ -5,6 +5,8 @@
 //
 // `text` and `hex` read fields, numbers and bytes, `case` a case, `ask` a question and puts it to the search, to the writer of
 // proofs or to their check; `main` prints.
+#![tactic(auto)]
+
 mod ask;
 mod case;
 mod hex;
@@ -14,7 +16,7 @@ mod trouble;
 use crate::ask::{answer_to, memory_in, question_of};
 use crate::case::{Case, Rules, case_of, nodes_of};
 use crate::text::field_of;
-use atari_go::game::AtariGo;
+use atari_go::atari::AtariGo;
 use game::interface::{Bounded, Game, Layer};
 use graph::graph::Graph;
 use layers::limit::Limit;

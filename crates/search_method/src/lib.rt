@@ -8,5 +8,7 @@
 //
 // The types that code and definition share are `Pair`, `Worked`, `Answer` and `SolveRefusal`, with
 // `SolveRefusal::number`. The other functions carry the theorems: `verdicts_are_true`, `budget_is_enough`, `worked_bounds`.
+#![tactic(auto)]
+
 pub mod kinds;
 pub mod theorems;

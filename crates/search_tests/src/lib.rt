@@ -1,5 +1,7 @@
 // Tests of the search on a small graph: over a store that holds nothing, whose answers are worked out by hand, and over
 // tables, whose answers were worked out by a program apart from this one.
+#![tactic(auto)]
+
 #[cfg(test)]
 mod tests {
     use game::interface::{Game, Layer};

@@ -5,6 +5,8 @@
 // is about promises. `request::Request` and `request::Reply` are these calls and their answers as plain values, and
 // `run::in_two_sessions` opens two sessions and makes a list of requests in each. Its contract says of each that this
 // was the life of a session, as the crate `life` defines it, and it has the whole promise of any two such lives.
+#![tactic(auto)]
+
 mod living;
 pub mod request;
 pub mod run;

@@ -1,6 +1,8 @@
 // Long random lists of calls in two sessions over random graphs with random layers and table sizes. Each verdict, and the
 // claim of each accepted proof, is compared with a plain walk of the game tree. The first argument is the number of cases
 // (20 without one); the same cases come at every run.
+#![tactic(auto)]
+
 use anyhow::anyhow;
 use game::interface::{Bounded, Game, Layer};
 use game::refusal::PositionRefusal;

@@ -2,6 +2,7 @@
 //
 // The expected slots were worked out apart from the program. Modulo 67 the powers of two are all different, so that in a row of
 // 67 slots every rotation of a single bit leads to another slot.
+#![tactic(auto)]
 
 #[cfg(test)]
 mod tests {

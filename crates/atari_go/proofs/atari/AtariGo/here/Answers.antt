@@ -1,6 +1,6 @@
 use Rattle.std.proofs.Common.{arith}
 use Rattle.go_rules.proofs.Walks.{walked_at, walked_here}
-use Rattle.atari_go.proofs.game.AtariGo.here.Goals as goal
+use Rattle.atari_go.proofs.atari.AtariGo.here.Goals as goal
 
 pub returns : goal.returns
 returns c =

@@ -1,6 +1,6 @@
 use Rattle.std.proofs.Common.{refl, arith}
 use Rattle.go_rules.proofs.Walks.{back_answer_lem, line_less}
-use Rattle.atari_go.proofs.game.AtariGo.cut.Goals as goal
+use Rattle.atari_go.proofs.atari.AtariGo.cut.Goals as goal
 
 pub returns : goal.returns
 returns c =

@@ -1,6 +1,6 @@
 use Rattle.std.proofs.Common.{refl, ◌∙◌, arith, length-set}
 use Rattle.go_rules.proofs.Walks.{line_length, line_more, legal_more, walked_more}
-use Rattle.atari_go.proofs.game.AtariGo.append.Goals as goal
+use Rattle.atari_go.proofs.atari.AtariGo.append.Goals as goal
 
 pub bounds-self-self : goal.bounds-self-self
 bounds-self-self c =

@@ -1,6 +1,6 @@
 use Rattle.std.proofs.Common.{sym, arith}
 use Rattle.go_rules.proofs.Walks.{line_length}
-use Rattle.atari_go.proofs.game.AtariGo.made.Goals as goal
+use Rattle.atari_go.proofs.atari.AtariGo.made.Goals as goal
 
 pub returns : goal.returns
 returns c =

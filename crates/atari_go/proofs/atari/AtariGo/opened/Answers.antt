@@ -1,6 +1,6 @@
 use Rattle.std.proofs.Common.{replicate, refl, arith}
 use Rattle.go_rules.proofs.Walks.{walked_start}
-use Rattle.atari_go.proofs.game.AtariGo.opened.Goals as goal
+use Rattle.atari_go.proofs.atari.AtariGo.opened.Goals as goal
 
 pub invariant-of-result : goal.invariant-of-result
 invariant-of-result c =

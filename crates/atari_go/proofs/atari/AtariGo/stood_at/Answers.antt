@@ -1,7 +1,7 @@
 use Rattle.std.proofs.Common.{sym, ap, ◌∙◌, arith}
 use Rattle.go_rules.specs.Play.{standing, line_of}
 use Rattle.go_rules.proofs.Walks.{walked_at, walked_here, line_first}
-use Rattle.atari_go.proofs.game.AtariGo.stood_at.Goals as goal
+use Rattle.atari_go.proofs.atari.AtariGo.stood_at.Goals as goal
 
 pub returns : goal.returns
 returns c =
