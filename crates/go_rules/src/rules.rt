@@ -77,8 +77,8 @@ pub fn liberties_of(board: &Board, s: u64, free: u64, p: u32) -> u64
 
 // Whether a stone on p leaves its own group a liberty or takes an enemy group's last; `before` are the enemy stones that have one now.
 fn may_fill(board: &Board, own: u64, foe: u64, before: u64, p: u32) -> bool
-    requires p_bound { p < 64 }
-    requires before_value { before ≡ living board.now.n foe (free_of board.now.n own foe) }
+    requires place { p < 64 }
+    requires before { before ≡ living board.now.n foe (free_of board.now.n own foe) }
     ensures { result ≡ may_fill board.now.n own foe p }
 {
     let mine = own | (1 << p);

@@ -14,11 +14,11 @@ pub text-requires : goal.text-requires
 text-requires c = omega (arith, room32 c.args.card.number (search rules), room8 c.args.card.floor (search rules), c.new-line.ensures.len_is, c.entry.ensures.len, c.entry-2.ensures.len)
 
 pub text-requires-2 : goal.text-requires-2
-text-requires-2 c = omega (arith, room32 c.args.card.number (search rules), room8 c.args.card.floor (search rules), c.new-line.ensures.len_is, c.entry.ensures.len, c.entry-2.ensures.len, c.text.ensures.len, word_room c.args.card.yes, ap length c.verdict-word.ensures)
+text-requires-2 c = omega (arith, room32 c.args.card.number (search rules), room8 c.args.card.floor (search rules), c.new-line.ensures.len_is, c.entry.ensures.len, c.entry-2.ensures.len, c.text.ensures.len, word_room c.args.card.yes, ap length c.verdict_word.ensures)
 
 pub returns : goal.returns
 returns c =
-    let word : Appends c.text.new.self (verdict_word c.args.card.yes) c.text-2.new.self = subst (λ l. Appends c.text.new.self l c.text-2.new.self) c.verdict-word.ensures c.text-2.ensures in
+    let word : Appends c.text.new.self (verdict_word c.args.card.yes) c.text-2.new.self = subst (λ l. Appends c.text.new.self l c.text-2.new.self) c.verdict_word.ensures c.text-2.ensures in
     record {
       is = claim_line c.new-line.result c.entry.new.self c.entry-2.new.self c.text.new.self c.text-2.new.self
           (entry "card " c.args.card.number) (entry ": at least " c.args.card.floor) (codes " ") (verdict_word c.args.card.yes)

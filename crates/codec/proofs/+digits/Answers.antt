@@ -12,19 +12,19 @@ returns-then-byte-lt128 t c =
       small = omega (arith, wider c.args.most c.if-most-eq0.false, pow_pos (7 * (c.args.most - 1)));
     }
 
-pub returns-in-err-above : goal.returns-in-err-above
-returns-in-err-above t c =
-    rw c.from-residual.ensures (record {
-      is = above_none c.args.bytes.now c.args.at c.args.most c.if-most-eq0.false c.if-at-bytes.false c.if-byte-lt128.false c.in-err-above.ensures.is;
+pub returns-in_err-above : goal.returns-in_err-above
+returns-in_err-above t c =
+    rw c.from_residual.ensures (record {
+      is = above_none c.args.bytes.now c.args.at c.args.most c.if-most-eq0.false c.if-at-bytes.false c.if-byte-lt128.false c.in_err-above.ensures.is;
       small = omega arith;
     })
 
 pub joined-requires : goal.joined-requires
-joined-requires t c = (c.if-byte-lt128.false, at_most_35 c.args.most c.in-ok-above.above.value c.requires c.in-ok-above.ensures.small)
+joined-requires t c = (c.if-byte-lt128.false, at_most_35 c.args.most c.in_ok-above.above.value c.requires c.in_ok-above.ensures.small)
 
 pub returns : goal.returns
 returns t c =
     rw c.joined.ensures (record {
-      is = above_joined c.args.bytes.now c.args.at c.args.most c.if-most-eq0.false c.if-at-bytes.false c.in-ok-above.above c.if-byte-lt128.false c.in-ok-above.ensures.is;
-      small = joined_small (get_or c.args.bytes.now c.args.at 0) c.args.most c.in-ok-above.above c.if-most-eq0.false (omega (arith, c.type-inv.bytes c.args.at)) c.in-ok-above.ensures.small;
+      is = above_joined c.args.bytes.now c.args.at c.args.most c.if-most-eq0.false c.if-at-bytes.false c.in_ok-above.above c.if-byte-lt128.false c.in_ok-above.ensures.is;
+      small = joined_small (get_or c.args.bytes.now c.args.at 0) c.args.most c.in_ok-above.above c.if-most-eq0.false (omega (arith, c.type_inv.bytes c.args.at)) c.in_ok-above.ensures.small;
     })

@@ -10,7 +10,7 @@ returns c =
     let b = c.args.board.now in
     let s = c.args.s in
     let e : bit_and c.args.free c.around.result ≡ liberties_of b.n s c.args.free c.args.p =
-    ap (bit_and c.args.free) (c.around.ensures ∙ ap (around b.n) c.group-of.ensures.is) in
+    ap (bit_and c.args.free) (c.around.ensures ∙ ap (around b.n) c.group_of.ensures.is) in
     record {
       is = e;
       beside = λ on. subst (Liberties b.n s c.args.free c.args.p) (sym e) (liberties_are b.n b.low b.high s c.args.p on c.args.free);

@@ -6,8 +6,8 @@ use Rattle.go_rules.specs.Rules.{group_of, Group}
 use Rattle.go_rules.proofs.Liberties.{group_is}
 use Rattle.go_rules.proofs.rules.joined_to.Goals as goal
 
-pub overflow-shl-p : goal.overflow-shl-p
-overflow-shl-p c = has_inside 64 c.args.s c.args.p c.ranges.s.fits c.requires
+pub overflow_shl-p : goal.overflow_shl-p
+overflow_shl-p c = has_inside 64 c.args.s c.args.p c.ranges.s.fits c.requires
 
 pub returns : goal.returns
 returns c =

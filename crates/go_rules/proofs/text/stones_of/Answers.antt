@@ -8,11 +8,11 @@ use Rattle.go_rules.proofs.text.stones_of.Goals as goal
 use Rattle.go_rules.proofs.text.stones_of.Goals.{then-text-p, else-text-p}
 use Rattle.std.proofs.lemmas.Bool.{eq-eqb, ne_eqb}
 
-pub overflow-shl-stones : goal.overflow-shl-stones
-overflow-shl-stones c = omega (arith, small_board c.args.n c.requires.lines)
+pub overflow_shl-stones : goal.overflow_shl-stones
+overflow_shl-stones c = omega (arith, small_board c.args.n c.requires.lines)
 
-pub overflow-add-stones : goal.overflow-add-stones
-overflow-add-stones c =
+pub overflow_add-stones : goal.overflow_add-stones
+overflow_add-stones c =
     let h : c.loop-p.p < 63 = omega (arith, small_board c.args.n c.requires.lines) in
     record {
       fits = more_fits c.loop-p.p (λ p. eqb (get_or c.args.text.now (5 + p) 0) c.args.colour) c.loop-p.stones _ c.loop-p.invariant

@@ -8,6 +8,6 @@ pub returns : goal.returns
 returns c =
     let b = c.args.board.now in
     record {
-      is = c.nth-point.ensures;
-      low = omega (arith, c.nth-point.ensures, nth_low (has c.args.x.moves) (b.n * b.n) c.args.k, small_board b.n b.high);
+      is = c.nth_point.ensures;
+      low = omega (arith, c.nth_point.ensures, nth_low (has c.args.x.moves) (b.n * b.n) c.args.k, small_board b.n b.high);
     }

@@ -40,7 +40,7 @@ pub descend-returns : goal.descend-returns
 descend-returns g t c =
     let m = g.G.Game.means c.args.game.now in
     let l = g.G.Game.line c.args.game.now in
-    let play = legal_play m l c.args.k (sym c.in-default.ensures.answer) in
+    let play = legal_play m l c.args.k (sym c.in_default.ensures.answer) in
     let ok = play.legal in
     let goes = c.play.ensures.moved ∙ play.line in
     let pos : 0 < c.args.state.left =
@@ -55,15 +55,15 @@ descend-returns g t c =
           (subst₃ (λ (n : Meaning) (q : Line) (i : ℕ). Walks n c.args.proof.now c.args.claim q i (record { at = c.args.state.at; left = c.args.state.left - 1 }) c.walk-below.result)
           c.play.ensures.same goes e c.walk-below.ensures.is);
       within = more_within c.args.proof.now (c.args.state.left - 1) c.args.state.left (omega arith) c.walk-below.result c.walk-below.ensures.within;
-      restored = visited c.play.ensures.same goes c.walk-below.ensures.restored c.take-back.ensures.same c.take-back.ensures.moved;
+      restored = visited c.play.ensures.same goes c.walk-below.ensures.restored c.take_back.ensures.same c.take_back.ensures.moved;
     }
 
-pub walk-returns-then-given-by : goal.walk-returns-then-given-by
-walk-returns-then-given-by g t c =
+pub walk-returns-then-given_by : goal.walk-returns-then-given_by
+walk-returns-then-given_by g t c =
     record {
       is =
           over_yes (g.G.Game.means c.args.game.now) c.args.proof.now c.args.claim (g.G.Game.line c.args.game.now) c.args.depth
-          c.args.state c.in-Some.score c.in-Some.ensures (sym c.given-by.ensures ∙ c.if-given-by.true);
+          c.args.state c.in-Some.score c.in-Some.ensures (sym c.given_by.ensures ∙ c.if-given_by.true);
       within = (c.requires.inside, omega arith);
       restored = record { same = refl; back = refl };
     }
@@ -73,7 +73,7 @@ walk-returns-in-Some g t c =
     record {
       is =
           over_no (g.G.Game.means c.args.game.now) c.args.proof.now c.args.claim (g.G.Game.line c.args.game.now) c.args.depth
-          c.args.state c.in-Some.score c.requires.inside c.in-Some.ensures (sym c.given-by.ensures ∙ c.if-given-by.false);
+          c.args.state c.in-Some.score c.requires.inside c.in-Some.ensures (sym c.given_by.ensures ∙ c.if-given_by.false);
       within = tt;
       restored = record { same = refl; back = refl };
     }
@@ -83,19 +83,19 @@ walk-returns-in-None g t c =
     record {
       is =
           own_none (g.G.Game.means c.args.game.now) c.args.proof.now c.args.claim (g.G.Game.line c.args.game.now) c.args.depth
-          c.args.state c.requires.inside c.in-default.ensures
+          c.args.state c.requires.inside c.in_default.ensures
           (on_turn c.args.claim c.claims.result c.turn.result ((g.G.Game.means c.args.game.now).view (g.G.Game.line c.args.game.now)).turn true c.claims.ensures c.turn.ensures c.if-claims.true) c.in-None.ensures;
       within = tt;
       restored = record { same = refl; back = refl };
     }
 
-pub walk-returns-in-Some-read-number : goal.walk-returns-in-Some-read-number
-walk-returns-in-Some-read-number g t c =
+pub walk-returns-in-Some-read_number : goal.walk-returns-in-Some-read_number
+walk-returns-in-Some-read_number g t c =
     record {
       is =
           own_some (g.G.Game.means c.args.game.now) c.args.proof.now c.args.claim (g.G.Game.line c.args.game.now) c.args.depth
-          c.args.state c.in-Some-read-number.number c.descend.result c.requires.inside c.in-default.ensures
-          (on_turn c.args.claim c.claims.result c.turn.result ((g.G.Game.means c.args.game.now).view (g.G.Game.line c.args.game.now)).turn true c.claims.ensures c.turn.ensures c.if-claims.true) c.in-Some-read-number.ensures
+          c.args.state c.in-Some-read_number.number c.descend.result c.requires.inside c.in_default.ensures
+          (on_turn c.args.claim c.claims.result c.turn.result ((g.G.Game.means c.args.game.now).view (g.G.Game.line c.args.game.now)).turn true c.claims.ensures c.turn.ensures c.if-claims.true) c.in-Some-read_number.ensures
           c.descend.ensures.is;
       within = c.descend.ensures.within;
       restored = c.descend.ensures.restored;
@@ -106,35 +106,35 @@ walk-returns-else-claims g t c =
     record {
       is =
           other_side (g.G.Game.means c.args.game.now) c.args.proof.now c.args.claim (g.G.Game.line c.args.game.now) c.args.depth
-          c.args.state c.all-moves.result c.in-default.ensures
-          (on_turn c.args.claim c.claims.result c.turn.result ((g.G.Game.means c.args.game.now).view (g.G.Game.line c.args.game.now)).turn false c.claims.ensures c.turn.ensures c.if-claims.false) c.all-moves.ensures.is;
-      within = c.all-moves.ensures.within;
-      restored = c.all-moves.ensures.restored;
+          c.args.state c.all_moves.result c.in_default.ensures
+          (on_turn c.args.claim c.claims.result c.turn.result ((g.G.Game.means c.args.game.now).view (g.G.Game.line c.args.game.now)).turn false c.claims.ensures c.turn.ensures c.if-claims.false) c.all_moves.ensures.is;
+      within = c.all_moves.ensures.within;
+      restored = c.all_moves.ensures.restored;
     }
 
-pub all-moves-returns-in-err-state : goal.all-moves-returns-in-err-state
-all-moves-returns-in-err-state g t c =
+pub all_moves-returns-in_err-state : goal.all_moves-returns-in_err-state
+all_moves-returns-in_err-state g t c =
     let restored = c.loop-k.invariant.0 in
     let m = g.G.Game.means c.args.game.now in
     let l = g.G.Game.line c.args.game.now in
-    rw (residual_is c.from-residual.result c.in-err-state.field-0.0 c.from-residual.ensures.1) (record {
+    rw (residual_is c.from_residual.result c.in_err-state.field-0.0 c.from_residual.ensures.1) (record {
       is =
-          through_fails m c.args.proof.now c.args.claim l c.args.depth c.args.start c.loop-k.k c.loop-k.state.at c.loop-k.state c.in-err-state.field-0.0
+          through_fails m c.args.proof.now c.args.claim l c.args.depth c.args.start c.loop-k.k c.loop-k.state.at c.loop-k.state c.in_err-state.field-0.0
           (omega (arith, c.loop-k-test.true, c.requires.all)) c.loop-k.invariant.1
-          (descends_restored g.G.Game.means g.G.Game.line c.args.game.now c.loop-k.game restored c.args.proof.now c.args.claim c.args.depth c.loop-k.k c.loop-k.state.at c.loop-k.state (Err c.in-err-state.field-0.0)
-          c.in-err-state.ensures.is);
+          (descends_restored g.G.Game.means g.G.Game.line c.args.game.now c.loop-k.game restored c.args.proof.now c.args.claim c.args.depth c.loop-k.k c.loop-k.state.at c.loop-k.state (Err c.in_err-state.field-0.0)
+          c.in_err-state.ensures.is);
       within = tt;
       restored = restored_then restored c.descend.ensures.restored;
     })
 
-pub all-moves-loop-k-preserved : goal.all-moves-loop-k-preserved
-all-moves-loop-k-preserved g t c =
+pub all_moves-loop-k-preserved : goal.all_moves-loop-k-preserved
+all_moves-loop-k-preserved g t c =
     let restored = c.loop-k.invariant.0 in (
       restored_then restored c.descend.ensures.restored,
       through_more (g.G.Game.means c.args.game.now) c.args.proof.now c.args.claim (g.G.Game.line c.args.game.now) c.args.depth
-          c.args.start c.loop-k.k c.loop-k.state.at c.loop-k.state c.in-ok-state.state
+          c.args.start c.loop-k.k c.loop-k.state.at c.loop-k.state c.in_ok-state.state
           (omega (arith, c.loop-k-test.true, c.requires.all)) c.loop-k.invariant.1
-          (descends_restored g.G.Game.means g.G.Game.line c.args.game.now c.loop-k.game restored c.args.proof.now c.args.claim c.args.depth c.loop-k.k c.loop-k.state.at c.loop-k.state (Ok c.in-ok-state.state)
-          c.in-ok-state.ensures.is)
-          c.in-ok-state.ensures.within,
+          (descends_restored g.G.Game.means g.G.Game.line c.args.game.now c.loop-k.game restored c.args.proof.now c.args.claim c.args.depth c.loop-k.k c.loop-k.state.at c.loop-k.state (Ok c.in_ok-state.state)
+          c.in_ok-state.ensures.is)
+          c.in_ok-state.ensures.within,
     )

@@ -20,31 +20,31 @@ step-returns g t c =
           (subst₂ (λ (n : Meaning) (q : Line). Walks g.S.Store.store n c.args.claim q None (record { at = c.args.state.at; left = c.args.state.left - 1 }) c.args.out.now c.args.store.now c.walk-below.new.out c.walk-below.new.store c.walk-below.result)
           c.play.ensures.same goes c.walk-below.ensures.is);
       framed = less_framed (record { at = c.args.state.at; left = c.args.state.left - 1 }) c.args.state c.args.out.now c.walk-below.new.out refl (omega arith) c.walk-below.result c.walk-below.ensures.framed;
-      restored = visited c.play.ensures.same goes c.walk-below.ensures.restored c.take-back.ensures.same c.take-back.ensures.moved;
+      restored = visited c.play.ensures.same goes c.walk-below.ensures.restored c.take_back.ensures.same c.take_back.ensures.moved;
     }
 
 pub own-returns-in-Some : goal.own-returns-in-Some
 own-returns-in-Some g t c =
     record {
       is =
-          own_on g.S.Store.store (g.G.Game.means c.args.game.now) c.args.claim (g.G.Game.line c.args.game.now) c.args.k c.args.state c.args.out.now c.put-number.new.bytes c.args.store.now c.step.new.out c.step.new.store c.step.result c.in-Some.at
+          own_on g.S.Store.store (g.G.Game.means c.args.game.now) c.args.claim (g.G.Game.line c.args.game.now) c.args.k c.args.state c.args.out.now c.put_number.new.bytes c.args.store.now c.step.new.out c.step.new.store c.step.result c.in-Some.at
           (omega (arith, c.if-k-moves.false, c.moves.ensures))
-          c.in-Some.ensures.end c.put-number.ensures.bytes c.put-number.auto.bytes c.step.ensures.is;
-      framed = framed_put c.args.state c.args.out.now c.put-number.new.bytes c.step.new.out c.args.k c.in-Some.at
-          c.in-Some.ensures.end c.put-number.ensures.bytes c.put-number.auto.bytes c.step.result c.step.ensures.framed;
+          c.in-Some.ensures.end c.put_number.ensures.bytes c.put_number.auto.bytes c.step.ensures.is;
+      framed = framed_put c.args.state c.args.out.now c.put_number.new.bytes c.step.new.out c.args.k c.in-Some.at
+          c.in-Some.ensures.end c.put_number.ensures.bytes c.put_number.auto.bytes c.step.result c.step.ensures.framed;
       restored = c.step.ensures.restored;
     }
 
-pub own-turn-returns-in-OutOfBudget : goal.own-turn-returns-in-OutOfBudget
-own-turn-returns-in-OutOfBudget g t c =
+pub own_turn-returns-in-OutOfBudget : goal.own_turn-returns-in-OutOfBudget
+own_turn-returns-in-OutOfBudget g t c =
     record {
       is = unsolved g.S.Store.store (g.G.Game.means c.args.game.now) c.args.claim (g.G.Game.line c.args.game.now) c.args.state c.args.out.now c.args.store.now c.find.new.store c.in-OutOfBudget.count c.in-OutOfBudget.ensures.runs;
       framed = omega arith;
       restored = c.find.ensures.restored;
     }
 
-pub own-turn-returns-in-Solved : goal.own-turn-returns-in-Solved
-own-turn-returns-in-Solved g t c =
+pub own_turn-returns-in-Solved : goal.own_turn-returns-in-Solved
+own_turn-returns-in-Solved g t c =
     record {
       is =
           solved_on g.S.Store.store (g.G.Game.means c.args.game.now) c.args.claim (g.G.Game.line c.args.game.now) c.args.state c.args.out.now c.args.store.now c.find.new.store c.own.new.out c.own.new.store c.own.result c.in-Solved.yes c.in-Solved.best c.in-Solved.count
@@ -59,33 +59,33 @@ pub walk-returns-in-None : goal.walk-returns-in-None
 walk-returns-in-None g t c =
     record {
       is =
-          own_side g.S.Store.store (g.G.Game.means c.args.game.now) c.args.claim (g.G.Game.line c.args.game.now) c.args.known c.in-None.is c.args.state c.args.out.now c.args.store.now c.own-turn.new.out c.own-turn.new.store c.own-turn.result c.in-default.ensures
-          (on_turn c.args.claim c.claims.result c.turn.result ((g.G.Game.means c.args.game.now).view (g.G.Game.line c.args.game.now)).turn true c.claims.ensures c.turn.ensures c.if-not-claims.false) c.own-turn.ensures.is;
-      framed = c.own-turn.ensures.framed;
-      restored = c.own-turn.ensures.restored;
+          own_side g.S.Store.store (g.G.Game.means c.args.game.now) c.args.claim (g.G.Game.line c.args.game.now) c.args.known c.in-None.is c.args.state c.args.out.now c.args.store.now c.own_turn.new.out c.own_turn.new.store c.own_turn.result c.in_default.ensures
+          (on_turn c.args.claim c.claims.result c.turn.result ((g.G.Game.means c.args.game.now).view (g.G.Game.line c.args.game.now)).turn true c.claims.ensures c.turn.ensures c.if-not-claims.false) c.own_turn.ensures.is;
+      framed = c.own_turn.ensures.framed;
+      restored = c.own_turn.ensures.restored;
     }
 
-pub all-moves-returns-in-err-state : goal.all-moves-returns-in-err-state
-all-moves-returns-in-err-state g t c =
+pub all_moves-returns-in_err-state : goal.all_moves-returns-in_err-state
+all_moves-returns-in_err-state g t c =
     let restored = c.loop-k.invariant.0 in
-    rw (residual_is c.from-residual.result c.in-err-state.field-0.0 c.from-residual.ensures.1) (record {
+    rw (residual_is c.from_residual.result c.in_err-state.field-0.0 c.from_residual.ensures.1) (record {
       is =
           begun_fails g.S.Store.store (g.G.Game.means c.args.game.now) c.args.claim (g.G.Game.line c.args.game.now) c.args.start c.args.out.now c.args.store.now c.loop-k.k c.loop-k.state c.loop-k.out c.loop-k.store (omega (arith, c.loop-k-test.true, c.requires.all)) c.loop-k.invariant.1
-          c.step.new.out c.step.new.store c.in-err-state.field-0.0
-          (plays_restored g.S.Store.store g.G.Game.means g.G.Game.line c.args.game.now c.loop-k.game restored c.args.claim c.loop-k.k c.loop-k.state c.loop-k.out c.loop-k.store c.step.new.out c.step.new.store (Err c.in-err-state.field-0.0)
-          c.in-err-state.ensures.is);
-      framed = c.in-err-state.ensures.framed;
+          c.step.new.out c.step.new.store c.in_err-state.field-0.0
+          (plays_restored g.S.Store.store g.G.Game.means g.G.Game.line c.args.game.now c.loop-k.game restored c.args.claim c.loop-k.k c.loop-k.state c.loop-k.out c.loop-k.store c.step.new.out c.step.new.store (Err c.in_err-state.field-0.0)
+          c.in_err-state.ensures.is);
+      framed = c.in_err-state.ensures.framed;
       restored = restored_then restored c.step.ensures.restored;
     })
 
-pub all-moves-loop-k-preserved : goal.all-moves-loop-k-preserved
-all-moves-loop-k-preserved g t c =
+pub all_moves-loop-k-preserved : goal.all_moves-loop-k-preserved
+all_moves-loop-k-preserved g t c =
     let restored = c.loop-k.invariant.0 in (
       restored_then restored c.step.ensures.restored,
       begun_more g.S.Store.store (g.G.Game.means c.args.game.now) c.args.claim (g.G.Game.line c.args.game.now) c.args.start c.args.out.now c.args.store.now c.loop-k.k c.loop-k.state c.loop-k.out c.loop-k.store (omega (arith, c.loop-k-test.true, c.requires.all)) c.loop-k.invariant.1
-          c.step.new.out c.step.new.store c.in-ok-state.state c.step.auto.out c.in-ok-state.ensures.framed
-          (plays_restored g.S.Store.store g.G.Game.means g.G.Game.line c.args.game.now c.loop-k.game restored c.args.claim c.loop-k.k c.loop-k.state c.loop-k.out c.loop-k.store c.step.new.out c.step.new.store (Ok c.in-ok-state.state)
-          c.in-ok-state.ensures.is),
+          c.step.new.out c.step.new.store c.in_ok-state.state c.step.auto.out c.in_ok-state.ensures.framed
+          (plays_restored g.S.Store.store g.G.Game.means g.G.Game.line c.args.game.now c.loop-k.game restored c.args.claim c.loop-k.k c.loop-k.state c.loop-k.out c.loop-k.store c.step.new.out c.step.new.store (Ok c.in_ok-state.state)
+          c.in_ok-state.ensures.is),
       c.step.auto.lines ∙ c.loop-k.invariant.2,
       c.step.auto.moves ∙ c.loop-k.invariant.3,
     )

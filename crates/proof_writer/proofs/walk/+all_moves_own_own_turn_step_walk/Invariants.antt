@@ -6,11 +6,11 @@ use Rattle.proof_writer.proofs.walk.+all_moves_own_own_turn_step_walk.Given as g
 abbrev pub decreases-walk : goal.decreases-walk
 decreases-walk g l = 4 * l.state.left + 3
 
-abbrev pub decreases-all-moves : goal.decreases-all-moves
-decreases-all-moves g l = 4 * l.start.left + 2
+abbrev pub decreases-all_moves : goal.decreases-all_moves
+decreases-all_moves g l = 4 * l.start.left + 2
 
-abbrev pub decreases-own-turn : goal.decreases-own-turn
-decreases-own-turn g l = 4 * l.state.left + 2
+abbrev pub decreases-own_turn : goal.decreases-own_turn
+decreases-own_turn g l = 4 * l.state.left + 2
 
 abbrev pub decreases-own : goal.decreases-own
 decreases-own g l = 4 * l.state.left + 1
@@ -18,8 +18,8 @@ decreases-own g l = 4 * l.state.left + 1
 abbrev pub decreases-step : goal.decreases-step
 decreases-step g l = 4 * l.state.left
 
-abbrev pub invariant-all-moves-loop-k : goal.invariant-all-moves-loop-k
-invariant-all-moves-loop-k g l =
+abbrev pub invariant-all_moves-loop-k : goal.invariant-all_moves-loop-k
+invariant-all_moves-loop-k g l =
     Restored g.G.Game.means g.G.Game.line l.initial.game l.game
     × Begun g.S.Store.store (g.G.Game.means l.initial.game) l.claim (g.G.Game.line l.initial.game) l.initial.state l.initial.out l.initial.store l.k l.state l.out l.store
     × (length l.lines ≡ length l.initial.lines)

@@ -8,9 +8,9 @@ returns-in-Some g c =
     record {
       is =
           number_on g.S.Store.store (λ room f. number room (bit c.args.claim.yes) (first 7 (g.G.Game.means c.args.game.now) c.args.claim.floor room c.args.claim.yes (g.G.Game.line c.args.game.now) f c.args.best))
-          c.args.claim.floor c.args.state c.args.out.now c.put-number.new.bytes c.args.store.now c.put-verdict.new.out c.put-verdict.new.store c.put-verdict.result c.in-Some.at
-          c.in-Some.ensures.end c.put-number.ensures.bytes c.put-number.auto.bytes c.put-verdict.ensures.is;
-      framed = framed_put c.args.state c.args.out.now c.put-number.new.bytes c.put-verdict.new.out c.args.claim.floor c.in-Some.at
-          c.in-Some.ensures.end c.put-number.ensures.bytes c.put-number.auto.bytes c.put-verdict.result c.put-verdict.ensures.framed;
-      restored = c.put-verdict.ensures.restored;
+          c.args.claim.floor c.args.state c.args.out.now c.put_number.new.bytes c.args.store.now c.put_verdict.new.out c.put_verdict.new.store c.put_verdict.result c.in-Some.at
+          c.in-Some.ensures.end c.put_number.ensures.bytes c.put_number.auto.bytes c.put_verdict.ensures.is;
+      framed = framed_put c.args.state c.args.out.now c.put_number.new.bytes c.put_verdict.new.out c.args.claim.floor c.in-Some.at
+          c.in-Some.ensures.end c.put_number.ensures.bytes c.put_number.auto.bytes c.put_verdict.result c.put_verdict.ensures.framed;
+      restored = c.put_verdict.ensures.restored;
     }

@@ -14,32 +14,32 @@ returns-in-OutOfBudget g c =
       restored = c.find.ensures.restored;
     }
 
-pub returns-in-err-end : goal.returns-in-err-end
-returns-in-err-end g c =
-    rw (residual_is c.from-residual.result c.in-err-end.field-0.0 c.from-residual.ensures.1) (record {
+pub returns-in_err-end : goal.returns-in_err-end
+returns-in_err-end g c =
+    rw (residual_is c.from_residual.result c.in_err-end.field-0.0 c.from_residual.ensures.1) (record {
       is =
           unfiled g.S.Store.store (g.G.Game.means c.args.game.now) (g.G.Game.line c.args.game.now) c.args.floor c.args.budget c.args.out.now c.args.store.now c.find.new.store
-          c.in-Solved.yes c.in-Solved.best c.in-Solved.count c.in-Solved.ensures.runs c.put-file.new.out c.put-file.new.store c.put-file.result
-          (starts_restored g.S.Store.store g.G.Game.means g.G.Game.line c.args.game.now c.find.new.game c.find.ensures.restored (record { floor = c.args.floor; yes = c.in-Solved.yes }) c.in-Solved.best (record { at = 0; left = c.args.budget - c.in-Solved.count }) c.args.out.now c.find.new.store c.put-file.new.out c.put-file.new.store c.put-file.result
-          c.put-file.ensures.is)
-          c.in-err-end.field-0.0 c.in-err-end.was;
-      past = c.in-err-end.ensures.framed;
-      restored = restored_then c.find.ensures.restored c.put-file.ensures.restored;
+          c.in-Solved.yes c.in-Solved.best c.in-Solved.count c.in-Solved.ensures.runs c.put_file.new.out c.put_file.new.store c.put_file.result
+          (starts_restored g.S.Store.store g.G.Game.means g.G.Game.line c.args.game.now c.find.new.game c.find.ensures.restored (record { floor = c.args.floor; yes = c.in-Solved.yes }) c.in-Solved.best (record { at = 0; left = c.args.budget - c.in-Solved.count }) c.args.out.now c.find.new.store c.put_file.new.out c.put_file.new.store c.put_file.result
+          c.put_file.ensures.is)
+          c.in_err-end.field-0.0 c.in_err-end.was;
+      past = c.in_err-end.ensures.framed;
+      restored = restored_then c.find.ensures.restored c.put_file.ensures.restored;
     })
 
-pub returns-in-ok-end : goal.returns-in-ok-end
-returns-in-ok-end g c =
-    let frame = c.in-ok-end.ensures.framed in
+pub returns-in_ok-end : goal.returns-in_ok-end
+returns-in_ok-end g c =
+    let frame = c.in_ok-end.ensures.framed in
     record {
       is =
           filed g.S.Store.store (g.G.Game.means c.args.game.now) (g.G.Game.line c.args.game.now) c.args.floor c.args.budget c.args.out.now c.args.store.now c.find.new.store
-          c.in-Solved.yes c.in-Solved.best c.in-Solved.count c.in-Solved.ensures.runs c.put-file.new.out c.put-file.new.store c.put-file.result
-          (starts_restored g.S.Store.store g.G.Game.means g.G.Game.line c.args.game.now c.find.new.game c.find.ensures.restored (record { floor = c.args.floor; yes = c.in-Solved.yes }) c.in-Solved.best (record { at = 0; left = c.args.budget - c.in-Solved.count }) c.args.out.now c.find.new.store c.put-file.new.out c.put-file.new.store c.put-file.result
-          c.put-file.ensures.is)
-          c.in-ok-end.end c.in-ok-end.was;
+          c.in-Solved.yes c.in-Solved.best c.in-Solved.count c.in-Solved.ensures.runs c.put_file.new.out c.put_file.new.store c.put_file.result
+          (starts_restored g.S.Store.store g.G.Game.means g.G.Game.line c.args.game.now c.find.new.game c.find.ensures.restored (record { floor = c.args.floor; yes = c.in-Solved.yes }) c.in-Solved.best (record { at = 0; left = c.args.budget - c.in-Solved.count }) c.args.out.now c.find.new.store c.put_file.new.out c.put_file.new.store c.put_file.result
+          c.put_file.ensures.is)
+          c.in_ok-end.end c.in_ok-end.was;
       past = (
-        omega (arith, frame.1, c.put-file.auto.out),
-        buffer_is c.args.out.now c.put-file.new.out c.in-ok-end.end.at frame.1 c.put-file.auto.out frame.3,
+        omega (arith, frame.1, c.put_file.auto.out),
+        buffer_is c.args.out.now c.put_file.new.out c.in_ok-end.end.at frame.1 c.put_file.auto.out frame.3,
       );
-      restored = restored_then c.find.ensures.restored c.put-file.ensures.restored;
+      restored = restored_then c.find.ensures.restored c.put_file.ensures.restored;
     }

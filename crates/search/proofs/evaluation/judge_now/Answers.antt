@@ -9,7 +9,7 @@ pub returns-in-Given : goal.returns-in-Given
 returns-in-Given g c =
     record {
       does = judged_so g.S.Store.store c.args.store.now (g.G.Game.means c.args.game.now) c.args.floor (g.G.Game.line c.args.game.now) c.probe-found.result (Given c.in-Given.pair) c.args.plays.now.left (Some c.in-Given.pair) _
-          (sym c.in-default.ensures) (c.probe-found.ensures ∙ ap (g.S.Store.store.shows c.args.store.now) c.key-of.ensures)
+          (sym c.in_default.ensures) (c.probe-found.ensures ∙ ap (g.S.Store.store.shows c.args.store.now) c.key_of.ensures)
           (sym c.in-Given.is ∙ (c.weigh.ensures ∙ ap (λ b. weigh b c.probe-found.result) c.independent.ensures))
           (refl, refl);
       less = omega arith;
@@ -20,7 +20,7 @@ pub returns-in-Check : goal.returns-in-Check
 returns-in-Check g c =
     record {
       does = judged_so g.S.Store.store c.args.store.now (g.G.Game.means c.args.game.now) c.args.floor (g.G.Game.line c.args.game.now) c.probe-found.result (Check c.in-Check.yes) c.args.plays.now.left c.confirm.result c.confirm.new.plays.left
-          (sym c.in-default.ensures) (c.probe-found.ensures ∙ ap (g.S.Store.store.shows c.args.store.now) c.key-of.ensures)
+          (sym c.in_default.ensures) (c.probe-found.ensures ∙ ap (g.S.Store.store.shows c.args.store.now) c.key_of.ensures)
           (sym c.in-Check.is ∙ (c.weigh.ensures ∙ ap (λ b. weigh b c.probe-found.result) c.independent.ensures))
           c.confirm.ensures.does;
       less = c.confirm.ensures.less;

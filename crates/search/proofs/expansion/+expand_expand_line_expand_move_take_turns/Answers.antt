@@ -19,68 +19,68 @@ expand-returns-then-played-height g t c =
       kept = kept_same g.G.Game.means g.G.Game.line c.args.game.now;
     }
 
-pub expand-line-returns-in-err-evaluate : goal.expand-line-returns-in-err-evaluate
-expand-line-returns-in-err-evaluate g t c =
-    rw c.from-residual.ensures (record {
-      does = expand_exhausted g.S.Store.store c.args.store.now (g.G.Game.means c.args.game.now) c.args.line.now.key.floor (g.G.Game.line c.args.game.now) c.args.line.now.limit c.args.plays.now.left c.evaluate.new.plays.left c.requires.going c.in-err-evaluate.ensures.does;
+pub expand_line-returns-in_err-evaluate : goal.expand_line-returns-in_err-evaluate
+expand_line-returns-in_err-evaluate g t c =
+    rw c.from_residual.ensures (record {
+      does = expand_exhausted g.S.Store.store c.args.store.now (g.G.Game.means c.args.game.now) c.args.line.now.key.floor (g.G.Game.line c.args.game.now) c.args.line.now.limit c.args.plays.now.left c.evaluate.new.plays.left c.requires.going c.in_err-evaluate.ensures.does;
       less = omega arith;
       small = tt;
       kept = c.evaluate.ensures.kept;
     })
 
-pub expand-line-take-turns-requires : goal.expand-line-take-turns-requires
-expand-line-take-turns-requires g t c κs within =
+pub expand_line-take_turns-requires : goal.expand_line-take_turns-requires
+expand_line-take_turns-requires g t c κs within =
     let small : AllSmall c.evaluate.new.pairs =
-    evaluate_small g.S.Store.store c.args.store.now c.args.store.now (g.G.Game.means c.args.game.now) c.args.line.now.key.floor _ (g.G.Game.line c.args.game.now) c.args.plays.now.left c.evaluate.new.plays.left c.evaluate.new.pairs c.in-ok-evaluate.ensures.does in
+    evaluate_small g.S.Store.store c.args.store.now c.args.store.now (g.G.Game.means c.args.game.now) c.args.line.now.key.floor _ (g.G.Game.line c.args.game.now) c.args.plays.now.left c.evaluate.new.plays.left c.evaluate.new.pairs c.in_ok-evaluate.ensures.does in
     let told = told_kept g.G.Game.means g.G.Game.line c.args.game.now c.evaluate.new.game c.evaluate.ensures.kept c.args.line.now c.requires.told in
     search rules
 
-pub expand-line-returns : goal.expand-line-returns
-expand-line-returns g t c =
+pub expand_line-returns : goal.expand_line-returns
+expand_line-returns g t c =
     record {
-      does = expand_settled g.S.Store.store c.args.store.now c.take-turns.new.store (g.G.Game.means c.args.game.now) (g.G.Game.means c.evaluate.new.game) c.args.line.now.key.floor (g.G.Game.line c.args.game.now) (g.G.Game.line c.evaluate.new.game) c.args.line.now.limit
-          c.evaluate.new.pairs c.args.plays.now.left c.evaluate.new.plays.left c.take-turns.new.plays.left c.take-turns.result
-          c.requires.going c.evaluate.ensures.kept.same c.evaluate.ensures.kept.back c.in-ok-evaluate.ensures.does c.take-turns.ensures.does;
+      does = expand_settled g.S.Store.store c.args.store.now c.take_turns.new.store (g.G.Game.means c.args.game.now) (g.G.Game.means c.evaluate.new.game) c.args.line.now.key.floor (g.G.Game.line c.args.game.now) (g.G.Game.line c.evaluate.new.game) c.args.line.now.limit
+          c.evaluate.new.pairs c.args.plays.now.left c.evaluate.new.plays.left c.take_turns.new.plays.left c.take_turns.result
+          c.requires.going c.evaluate.ensures.kept.same c.evaluate.ensures.kept.back c.in_ok-evaluate.ensures.does c.take_turns.ensures.does;
       less = omega arith;
-      small = c.take-turns.ensures.small;
-      kept = kept_trans c.evaluate.ensures.kept c.take-turns.ensures.kept;
+      small = c.take_turns.ensures.small;
+      kept = kept_trans c.evaluate.ensures.kept c.take_turns.ensures.kept;
     }
 
-pub take-turns-returns-then-reaches : goal.take-turns-returns-then-reaches
-take-turns-returns-then-reaches g t c =
+pub take_turns-returns-then-reaches : goal.take_turns-returns-then-reaches
+take_turns-returns-then-reaches g t c =
     record {
       does = turning_left g.S.Store.store (g.G.Game.means c.args.game.now) c.args.line.now.key.floor (g.G.Game.line c.args.game.now) c.args.line.now.limit c.args.store.now c.args.pairs.now c.args.plays.now.left c.turns.store c.turns.pairs c.turns.plays.left
-          c.record.new.self c.args.line.now.black c.args.line.now.independent c.line-pair-pair.result c.finding-of-finding.result _
-          (λ i. (c.requires.told i).black) (λ i. (c.requires.told i).independent) (ap (reached c.args.line.now.limit) (sym c.line-pair-pair.ensures.is) ∙ (sym c.reaches.ensures ∙ c.if-reaches.true))
-          c.line-pair-pair.ensures.is c.finding-of-finding.ensures c.turns.invariant.1 c.record.ensures
-          (λ i. record { key = (c.requires.told i).key; finding = c.finding-of-finding.result });
+          c.record.new.self c.args.line.now.black c.args.line.now.independent c.line_pair-pair.result c.finding_of-finding.result _
+          (λ i. (c.requires.told i).black) (λ i. (c.requires.told i).independent) (ap (reached c.args.line.now.limit) (sym c.line_pair-pair.ensures.is) ∙ (sym c.reaches.ensures ∙ c.if-reaches.true))
+          c.line_pair-pair.ensures.is c.finding_of-finding.ensures c.turns.invariant.1 c.record.ensures
+          (λ i. record { key = (c.requires.told i).key; finding = c.finding_of-finding.result });
       less = omega arith;
-      small = c.line-pair-pair.ensures.small;
+      small = c.line_pair-pair.ensures.small;
       kept = c.turns.invariant.0;
     }
 
-pub take-turns-returns-in-default : goal.take-turns-returns-in-default
-take-turns-returns-in-default g t c =
+pub take_turns-returns-in_default : goal.take_turns-returns-in_default
+take_turns-returns-in_default g t c =
     record {
       does = turning_exhausted g.S.Store.store (g.G.Game.means c.args.game.now) c.args.line.now.key.floor (g.G.Game.line c.args.game.now) c.args.line.now.limit c.args.store.now c.args.pairs.now c.args.plays.now.left c.turns.store c.turns.pairs c.turns.plays.left
-          c.expand-move.new.store c.record-in-default.new.self c.args.line.now.black c.choose-move-k.result c.limits-of-next.result c.expand-move.new.plays.left _
-          (λ i. (c.requires.told i).black) (ap (reached c.args.line.now.limit) (sym c.line-pair-pair.ensures.is) ∙ (sym c.reaches.ensures ∙ c.if-reaches.false))
-          c.choose-move-k.ensures.is c.limits-of-next.ensures.is c.turns.invariant.1
-          (moved_kept g.S.Store.store g.G.Game.means g.G.Game.line c.args.game.now c.turns.game c.turns.invariant.0 c.turns.store c.expand-move.new.store c.args.line.now.key.floor c.choose-move-k.result c.limits-of-next.result c.turns.plays.left None c.expand-move.new.plays.left c.in-default.ensures.does)
-          c.record-in-default.ensures
-          (λ i. record { key = (c.requires.told i).key; finding = Open (c.line-pair-pair.ensures.is i).pn (c.line-pair-pair.ensures.is i).dn });
+          c.expand_move.new.store c.record-in_default.new.self c.args.line.now.black c.choose_move-k.result c.limits_of-next.result c.expand_move.new.plays.left _
+          (λ i. (c.requires.told i).black) (ap (reached c.args.line.now.limit) (sym c.line_pair-pair.ensures.is) ∙ (sym c.reaches.ensures ∙ c.if-reaches.false))
+          c.choose_move-k.ensures.is c.limits_of-next.ensures.is c.turns.invariant.1
+          (moved_kept g.S.Store.store g.G.Game.means g.G.Game.line c.args.game.now c.turns.game c.turns.invariant.0 c.turns.store c.expand_move.new.store c.args.line.now.key.floor c.choose_move-k.result c.limits_of-next.result c.turns.plays.left None c.expand_move.new.plays.left c.in_default.ensures.does)
+          c.record-in_default.ensures
+          (λ i. record { key = (c.requires.told i).key; finding = Open (c.line_pair-pair.ensures.is i).pn (c.line_pair-pair.ensures.is i).dn });
       small = tt;
       less = omega arith;
-      kept = kept_trans c.turns.invariant.0 c.expand-move.ensures.kept;
+      kept = kept_trans c.turns.invariant.0 c.expand_move.ensures.kept;
     }
 
-pub take-turns-turns-preserved : goal.take-turns-turns-preserved
-take-turns-turns-preserved g t c = (
-  kept_trans c.turns.invariant.0 c.expand-move.ensures.kept,
+pub take_turns-turns-preserved : goal.take_turns-turns-preserved
+take_turns-turns-preserved g t c = (
+  kept_trans c.turns.invariant.0 c.expand_move.ensures.kept,
   turning_more g.S.Store.store (g.G.Game.means c.args.game.now) c.args.line.now.key.floor (g.G.Game.line c.args.game.now) c.args.line.now.limit c.args.store.now c.args.pairs.now c.args.plays.now.left c.turns.store c.turns.pairs c.turns.plays.left
-      c.expand-move.new.store c.args.line.now.black c.choose-move-k.result c.limits-of-next.result c.in-Some.found c.expand-move.new.plays.left
-      (λ i. (c.requires.told i).black) (ap (reached c.args.line.now.limit) (sym c.line-pair-pair.ensures.is) ∙ (sym c.reaches.ensures ∙ c.if-reaches.false))
-      c.choose-move-k.ensures.is c.limits-of-next.ensures.is c.in-Some.ensures.costs c.turns.invariant.1
-      (moved_kept g.S.Store.store g.G.Game.means g.G.Game.line c.args.game.now c.turns.game c.turns.invariant.0 c.turns.store c.expand-move.new.store c.args.line.now.key.floor c.choose-move-k.result c.limits-of-next.result c.turns.plays.left (Some c.in-Some.found) c.expand-move.new.plays.left c.in-Some.ensures.does),
-  all_small_set c.turns.pairs c.choose-move-k.result c.in-Some.found.pair c.turns.invariant.2 c.in-Some.ensures.small,
+      c.expand_move.new.store c.args.line.now.black c.choose_move-k.result c.limits_of-next.result c.in-Some.found c.expand_move.new.plays.left
+      (λ i. (c.requires.told i).black) (ap (reached c.args.line.now.limit) (sym c.line_pair-pair.ensures.is) ∙ (sym c.reaches.ensures ∙ c.if-reaches.false))
+      c.choose_move-k.ensures.is c.limits_of-next.ensures.is c.in-Some.ensures.costs c.turns.invariant.1
+      (moved_kept g.S.Store.store g.G.Game.means g.G.Game.line c.args.game.now c.turns.game c.turns.invariant.0 c.turns.store c.expand_move.new.store c.args.line.now.key.floor c.choose_move-k.result c.limits_of-next.result c.turns.plays.left (Some c.in-Some.found) c.expand_move.new.plays.left c.in-Some.ensures.does),
+  all_small_set c.turns.pairs c.choose_move-k.result c.in-Some.found.pair c.turns.invariant.2 c.in-Some.ensures.small,
 )

@@ -6,7 +6,7 @@ use Rattle.search.proofs.pairs.choose_move.Goals as goal
 
 pub returns : goal.returns
 returns c =
-    let e : c.place-of.result ≡ choice_of c.args.black c.args.pairs.now = c.place-of.ensures.is ∙ ap (λ x. first x (mine c.args.black c.args.pairs.now)) c.least-of.ensures in
+    let e : c.place_of.result ≡ choice_of c.args.black c.args.pairs.now = c.place_of.ensures.is ∙ ap (λ x. first x (mine c.args.black c.args.pairs.now)) c.least_of.ensures in
     record {
       is = e;
       within = subst₂ (λ k n. k < n) (sym e) (mine_length c.args.black c.args.pairs.now)

@@ -11,8 +11,8 @@ returns c =
     let e : c.args.k + 1 ≡ suc c.args.k = omega arith in
     c.min.ensures
     ∙ (ap₂ min
-    (c.least-of.ensures ∙ ap (λ n. least (mine c.args.black (take n c.args.pairs.now))) (sub-zero c.args.k))
-    (c.least-of-2.ensures
+    (c.least_of.ensures ∙ ap (λ n. least (mine c.args.black (take n c.args.pairs.now))) (sub-zero c.args.k))
+    (c.least_of-2.ensures
     ∙ (ap (λ ps. least (mine c.args.black ps)) (between_to_end c.args.pairs.now (c.args.k + 1) (length c.args.pairs.now) (omega arith))
     ∙ ap (λ n. least (mine c.args.black (drop n c.args.pairs.now))) e))
     ∙ least_others c.args.black c.args.pairs.now c.args.k c.requires)

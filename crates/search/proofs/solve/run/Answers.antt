@@ -6,7 +6,7 @@ pub returns : goal.returns
 returns g c =
     record {
       runs = solve_expands g.S.Store.store c.args.store.now c.expand-found.new.store (g.G.Game.means c.args.game.now) (g.G.Game.line c.args.game.now) c.args.floor c.args.budget
-          c.expand-found.result c.expand-found.new.plays.left c.answer-of.result (sym c.in-default.ensures) c.expand-found.ensures.does c.answer-of.ensures.is;
-      within = c.answer-of.ensures.within;
+          c.expand-found.result c.expand-found.new.plays.left c.answer_of.result (sym c.in_default.ensures) c.expand-found.ensures.does c.answer_of.ensures.is;
+      within = c.answer_of.ensures.within;
       kept = c.expand-found.ensures.kept;
     }

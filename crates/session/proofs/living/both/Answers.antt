@@ -22,7 +22,7 @@ returns g c =
         one.ran,
         subst
             (λ (w : Memory).
-            Ran (m.means c.args.other-game) g.R.Store.store (m.line c.args.other-game) c.args.other-store w c.args.other-requests.now
+            Ran (m.means c.args.other_game) g.R.Store.store (m.line c.args.other_game) c.args.other_store w c.args.other_requests.now
             end.replies (m.line c.live-second.result.game) c.live-second.result.store (desk mid.bytes mid.written)
             (desk end.bytes end.written))
             (ap₂ memory lines moves) two.ran,

@@ -12,15 +12,22 @@ bounds-self-self-2 c =
     let s = c.args.self.now in
     omega (arith, c.requires.room, line_length s.numbers s.played (omega (arith, s.few, s.long)))
 
-pub invariant-of-self : goal.invariant-of-self
-invariant-of-self c =
+pub invariant_of-self : goal.invariant_of-self
+invariant_of-self c =
     let s = c.args.self.now in
     let len = line_length s.numbers s.played (omega (arith, s.few, s.long)) in
     let legal = legal_more s.board.n s.board.high s.start s.good s.numbers s.stood s.played s.long s.few s.legal s.walked
     c.args.k c.args.next (omega (arith, c.requires.room, len)) c.requires.legal in
     let walked = walked_more s.board.n s.board.high s.start s.good s.numbers s.stood s.played s.long s.few s.legal s.walked
     c.args.k c.args.next (omega (arith, c.requires.room, len)) c.requires.legal s.longer c.requires.leads in
-    (length-set s.numbers _ _ ∙ s.long, (length-set s.stood _ _ ∙ s.longer, (omega (arith, c.requires.room, len), (s.good, (legal, (walked, tt))))))
+    record {
+      long = length-set s.numbers _ _ ∙ s.long;
+      longer = length-set s.stood _ _ ∙ s.longer;
+      few = omega (arith, c.requires.room, len);
+      good = s.good;
+      legal = legal;
+      walked = walked;
+    }
 
 pub returns : goal.returns
 returns c =

@@ -7,5 +7,5 @@ use Rattle.atari_go.proofs.atari.AtariGo.room.Goals as goal
 pub returns : goal.returns
 returns c =
     let s = c.args.self.now in
-    subst (BoundedBy (atari_go s.board.n s.start)) (sym (c.from.ensures ∙ c.empty-count.ensures))
+    subst (BoundedBy (atari_go s.board.n s.start)) (sym (c.from.ensures ∙ c.empty_count.ensures))
     (go_bounded s.board.n s.board.high s.start (placed_of s.board.n s.start s.good))

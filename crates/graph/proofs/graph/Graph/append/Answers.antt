@@ -12,13 +12,20 @@ bounds-self-self-2 c =
     let s = c.args.self.now in
     omega (arith, c.requires.room, line_length s.numbers s.played (omega (arith, s.few, s.long)))
 
-pub invariant-of-self : goal.invariant-of-self
-invariant-of-self c =
+pub invariant_of-self : goal.invariant_of-self
+invariant_of-self c =
     let s = c.args.self.now in
     let len = line_length s.numbers s.played (omega (arith, s.few, s.long)) in
     let walked = walked_appended (take s.size s.nodes) s.good s.numbers s.stood s.played s.long s.few s.walked
     c.args.k c.args.node c.requires.legal c.requires.leads (omega (arith, c.requires.room, len)) s.longer in
-    (s.row, (length-set s.numbers _ _ ∙ s.long, (length-set s.stood _ _ ∙ s.longer, (omega (arith, c.requires.room, len), (s.good, (walked, tt))))))
+    record {
+      row = s.row;
+      long = length-set s.numbers _ _ ∙ s.long;
+      longer = length-set s.stood _ _ ∙ s.longer;
+      few = omega (arith, c.requires.room, len);
+      good = s.good;
+      walked = walked;
+    }
 
 pub returns : goal.returns
 returns c =
