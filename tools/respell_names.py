@@ -30,6 +30,13 @@ APART = {
     'sameKey': 'same_keys',
 }
 
+# names that no declaration of this form shows: those after `as`, and variables
+OTHERS = """
+Right-search at-is b-is back-goes back-same before-is bufferAfter checkOf enough-plays g-on is-e is-k is-next is-pair judged-there
+less-deep low-y mine-is n-is next-is none-q on-b on-f on-foe on-own on-s on-w open-yet own-after q-free q-on q-still s-is same-e
+same-game same-k same-pair same-x solveNumber solveOf t-is test-true theirs-is tried-held true-here w-is writeOf x-is
+""".split()
+
 
 def snake(name):
     """An own name as it is spelled today."""
@@ -60,6 +67,8 @@ def main():
             m = DECLARED.match(line) if p.suffix == '.antt' else None
             if m and (ODD.search(m.group(3)) or m.group(3) in APART) and not m.group(4).strip().startswith('goal.') and not m.group(3)[0].isdigit():
                 own.setdefault(m.group(3), p)
+    for n in OTHERS:
+        own.setdefault(n, files[0])
     both = sorted(n for n in own if n in library)
     for n in both:
         print(f'left, since a library has it: {n} ({own[n].relative_to(top)})')

@@ -5,7 +5,7 @@ use Rattle.codec.specs.Numbers.{Read, number, refused, below, digits, in_32_bits
 use Rattle.codec.specs.Files.{joined_to, spelled_out, placed}
 use Rattle.codec.specs.declared.Number.{Number}
 use Rattle.codec.specs.declared.Spelled.{Spelled}
-use Rattle.std.proofs.lemmas.Bool.{eqb-true as test-true}
+use Rattle.std.proofs.lemmas.Bool.{eqb-true as test_true}
 use Rattle.codec.proofs.Numbers.{never, not_zero, ltb-true, ltb-false, eqb-false, digits_last, digits_more}
 
 -- seven more bits
@@ -92,7 +92,7 @@ module _ (bytes : List ℕ) (at most : ℕ) where
       where
         by : (t : Bool) → eqb s.value 0 ≡ t →
             cond t None (Some (record { value = get_or bytes at 0 - 128 + 128 * s.value; end = s.end })) ≡ spelled_out (length bytes) (digits most (drop at bytes))
-        by true z = above_zero s h e (test-true s.value 0 z)
+        by true z = above_zero s h e (test_true s.value 0 z)
         by false z = above_more s h e (λ (q : s.value ≡ 0). absurd (omega (arith, not_zero s.value z)))
 
 pub joined_small : (b k : ℕ) (s : Spelled) → (k ≡ 0 → ⊥) → b < 256 → s.value < 2 ^ (7 * (k - 1)) → MatchOption (joined_to b s) (0 ≤ 1) (λ x. x.value < 2 ^ (7 * k))

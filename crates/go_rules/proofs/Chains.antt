@@ -147,8 +147,8 @@ module _ (n : ℕ) (low : 3 ≤ n) (high : n ≤ 7) where
         elim (or_cases _ _ (sym (has_or g (around n g) q) ∙ x.1)) [
           | inl y ↦ from q y
           | inr y ↦
-              let g-on : OnBoard n g = subst (λ (z : ℕ). z < 2 ^ (n * n)) inside (lt_of_le_of_lt (and_le_r g s) on) in
-              let b = around_from g q g-on y in
+              let g_on : OnBoard n g = subst (λ (z : ℕ). z < 2 ^ (n * n)) inside (lt_of_le_of_lt (and_le_r g s) on) in
+              let b = around_from g q g_on y in
               let j = from b.0 b.1 in
               (j.0, j.1, step j.2 b.2 x.0)
         ]

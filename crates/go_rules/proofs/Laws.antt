@@ -195,7 +195,7 @@ module _ (n : ℕ) (high : n ≤ 7) (start : Place) (good : Placed n start) wher
       let wx = word x.white gx.white in
       let wy = word y.white gy.white in
       let low_x = number_low x.side in
-      let low-y = number_low y.side in
+      let low_y = number_low y.side in
       let number : number_of x.side ≡ number_of y.side = omega arith in
       let side = one_side x.side y.side number in
       let white : x.white ≡ y.white = omega arith in

@@ -47,14 +47,14 @@ open_leaves n own foe p low high e =
     let f = λ (q : ℕ). not (has own q || has foe q) in
     let f' = λ (q : ℕ). not (has (with_stone own p) q || has foe q) in
     let b = around_from n low high (set_of (n * n) f) p (set_lt (n * n) f) e in
-    let q-on = b.2.on_board in
-    let q-free : f b.0 ≡ true = sym (has_set (n * n) f b.0 q-on) ∙ b.1 in
-    let q-still : f' b.0 ≡ true =
+    let q_on = b.2.on_board in
+    let q_free : f b.0 ≡ true = sym (has_set (n * n) f b.0 q_on) ∙ b.1 in
+    let q_still : f' b.0 ≡ true =
     ap (λ x. not (x || has foe b.0)) (has_or own (2 ^ p) b.0)
-    ∙ still_free (has own b.0) (has foe b.0) (has (2 ^ p) b.0) q-free
+    ∙ still_free (has own b.0) (has foe b.0) (has (2 ^ p) b.0) q_free
     (has_pow p b.0 ∙ ne_eqb b.0 p (apart n b.0 p b.2)) in
     reach_start n (with_stone own p) (around n (set_of (n * n) f')) p
-    (around_to n low high (set_of (n * n) f') p b.0 (has_set (n * n) f' b.0 q-on ∙ q-still) b.2)
+    (around_to n low high (set_of (n * n) f') p b.0 (has_set (n * n) f' b.0 q_on ∙ q_still) b.2)
     (has_or own (2 ^ p) p ∙ or_right _ _ (has_pow p p ∙ eq-eqb p p refl))
 
 pub open_legal : (n own foe p : ℕ) → 3 ≤ n → n ≤ 7 → has (bit_and (free_of n own foe) (around n (free_of n own foe))) p ≡ true → legal n own foe p ≡ true
@@ -77,10 +77,10 @@ pub fill_is :
     mine ≡ living n (bit_or own at) free → t ≡ has mine p → theirs ≡ living n foe free → before ≡ living n foe (free_of n own foe) →
     (t || not (eqb theirs before)) ≡ may_fill n own foe p
 unfolding may_fill
-fill_is n own foe p at free mine theirs before t at-is free_is mine-is t-is theirs-is before-is =
+fill_is n own foe p at free mine theirs before t at_is free_is mine_is t_is theirs_is before_is =
     let mine' : mine ≡ living n (with_stone own p) (free_of n (with_stone own p) foe) = cc in
     let theirs' : theirs ≡ living n foe (free_of n (with_stone own p) foe) = cc in
-    ap₂ (λ x y. x || not y) (t-is ∙ ap (λ (x : ℕ). has x p) mine') (ap₂ eqb theirs' before-is)
+    ap₂ (λ x y. x || not y) (t_is ∙ ap (λ (x : ℕ). has x p) mine') (ap₂ eqb theirs' before_is)
 
 pub dead_none : (n own foe live : ℕ) → live ≡ living n own (free_of n own foe) → (live ≡ own → ⊥) → 0 ≡ move_set n own foe
 unfolding move_set all_live

@@ -32,11 +32,11 @@ joined_sym n s p q (step {q = x} j b i) = in_front n s q x p i (near_sym n x q b
 module _ (n : ℕ) (low : 3 ≤ n) (high : n ≤ 7) where
   pub living_is : (s f : ℕ) → OnBoard n s → OnBoard n f → Living n s f (living n s f)
   unfolding living
-  living_is s f on-s on-f p =
-      let chained = reach_chained n low high s (around n f) on-s p in (
+  living_is s f on_s on_f p =
+      let chained = reach_chained n low high s (around n f) on_s p in (
         λ e.
             let j = chained.0 e in
-            let b = around_from n low high f j.0 on-f j.1 in
+            let b = around_from n low high f j.0 on_f j.1 in
             record {
               stone = j.0;
               liberty = b.0;
@@ -81,12 +81,12 @@ was_free n own foe p r e =
     ∙ less_free (has own r) (has (2 ^ p) r) (has foe r)
     (ap (λ b. not (b || has foe r)) (sym (has_or own (2 ^ p) r)) ∙ sym (has_set (n * n) f r h) ∙ e)
 
-module _ (n : ℕ) (low : 3 ≤ n) (high : n ≤ 7) (own foe : ℕ) (on-own : OnBoard n own) (on-foe : OnBoard n foe) where
+module _ (n : ℕ) (low : 3 ≤ n) (high : n ≤ 7) (own foe : ℕ) (on_own : OnBoard n own) (on_foe : OnBoard n foe) where
   foe_before : Living n foe (free_of n own foe) (living n foe (free_of n own foe))
-  foe_before = living_is n low high foe (free_of n own foe) on-foe (free_on n own foe)
+  foe_before = living_is n low high foe (free_of n own foe) on_foe (free_on n own foe)
 
   foe_after : (p : ℕ) → Living n foe (free_of n (with_stone own p) foe) (living n foe (free_of n (with_stone own p) foe))
-  foe_after p = living_is n low high foe (free_of n (with_stone own p) foe) on-foe (free_on n (with_stone own p) foe)
+  foe_after p = living_is n low high foe (free_of n (with_stone own p) foe) on_foe (free_on n (with_stone own p) foe)
 
   takes_is : (p : ℕ) → Decides (takes_last n own foe p) (Takes n own foe p)
   takes_is p =
@@ -95,7 +95,7 @@ module _ (n : ℕ) (low : 3 ≤ n) (high : n ≤ 7) (own foe : ℕ) (on-own : On
         λ e.
             elim (cases_differ (n * n) later before) [
               | inl same ↦
-                  let equal = same_set (n * n) later before (living_on n low high foe _ on-foe) (living_on n low high foe _ on-foe) same in
+                  let equal = same_set (n * n) later before (living_on n low high foe _ on_foe) (living_on n low high foe _ on_foe) same in
                   absurd (true≢false (sym e ∙ ap not (eq-eqb later before equal)))
               | inr d ↦ elim d.2 [
                 | inl x ↦
@@ -124,14 +124,14 @@ module _ (n : ℕ) (low : 3 ≤ n) (high : n ≤ 7) (own foe : ℕ) (on-own : On
   unfolding all_live
   all_live_lem =
       let live = living n own (free_of n own foe) in
-      let is = living_is n low high own (free_of n own foe) on-own (free_on n own foe) in (
+      let is = living_is n low high own (free_of n own foe) on_own (free_on n own foe) in (
         λ e q h. (is q).0 (ap (λ (m : ℕ). has m q) (eqb-true live own e) ∙ h),
         λ each.
-            eq-eqb live own (same_set (n * n) live own (living_on n low high own _ on-own) on-own (λ p h.
+            eq-eqb live own (same_set (n * n) live own (living_on n low high own _ on_own) on_own (λ p h.
             elim (cases_Bool (has own p)) [
               | inl x ↦ (is p).1 (each p x) ∙ sym x
               | inr x ↦ elim (cases_Bool (has live p)) [
-                | inl y ↦ absurd (true≢false (sym (own_stone n low high own (free_of n own foe) p on-own ((is p).0 y)) ∙ x))
+                | inl y ↦ absurd (true≢false (sym (own_stone n low high own (free_of n own foe) p on_own ((is p).0 y)) ∙ x))
                 | inr y ↦ y ∙ sym x
               ]
             ])),
@@ -143,11 +143,11 @@ module _ (n : ℕ) (low : 3 ≤ n) (high : n ≤ 7) (own foe : ℕ) (on-own : On
       ⊎ ((q : ℕ) × (has own q ≡ true) × (HasLiberty n own (free_of n own foe) q → ⊥))
   alive_or_not =
       let live = living n own (free_of n own foe) in
-      let is = living_is n low high own (free_of n own foe) on-own (free_on n own foe) in
+      let is = living_is n low high own (free_of n own foe) on_own (free_on n own foe) in
       elim (cases_differ (n * n) live own) [
-        | inl same ↦ inl (λ q h. (is q).0 (same q (has_inside (n * n) own q on-own h) ∙ h))
+        | inl same ↦ inl (λ q h. (is q).0 (same q (has_inside (n * n) own q on_own h) ∙ h))
         | inr d ↦ elim d.2 [
-          | inl x ↦ absurd (true≢false (sym (own_stone n low high own (free_of n own foe) d.0 on-own ((is d.0).0 x.0)) ∙ x.1))
+          | inl x ↦ absurd (true≢false (sym (own_stone n low high own (free_of n own foe) d.0 on_own ((is d.0).0 x.0)) ∙ x.1))
           | inr x ↦ inr (d.0, x.1, λ h. true≢false (sym ((is d.0).1 h) ∙ x.0))
         ]
       ]
@@ -155,8 +155,8 @@ module _ (n : ℕ) (low : 3 ≤ n) (high : n ≤ 7) (own foe : ℕ) (on-own : On
   legal_is : (p : ℕ) → p < n * n → Decides (legal n own foe p) (LegalMove n own foe p)
   unfolding legal may_fill
   legal_is p h =
-      let own-after = living_is n low high (with_stone own p) (free_of n (with_stone own p) foe) (stone_on n own p h on-own) (free_on n (with_stone own p) foe) p in
-      let fill = Decides-or (leaves_one n own foe p) (takes_last n own foe p) own-after (takes_is p) in
+      let own_after = living_is n low high (with_stone own p) (free_of n (with_stone own p) foe) (stone_on n own p h on_own) (free_on n (with_stone own p) foe) p in
+      let fill = Decides-or (leaves_one n own foe p) (takes_last n own foe p) own_after (takes_is p) in
       let free = has (free_of n own foe) p in (
         λ e. let x = and_parts free _ e in record { empty = x.0; fair = fill.0 x.1 },
         λ m. and_from free _ m.empty (fill.1 m.fair),

@@ -70,7 +70,7 @@ in_form t e =
 pub dead_is : (n b w lb lw : ℕ) → OnBoard n b → OnBoard n w → lb ≡ living n b (free_of n b w) → lw ≡ living n w (free_of n b w) →
     bit_or (bit_xor (bit_or b lb) lb) (bit_xor (bit_or w lw) lw) ≡ dead_set n b w
 unfolding dead_set
-dead_is n b w lb lw on-b on-w eb ew =
+dead_is n b w lb lw on_b on_w eb ew =
     let f = λ (p : ℕ). (has b p && not (has (living n b (free_of n b w)) p)) || (has w p && not (has (living n w (free_of n b w)) p)) in
     same_bits (bit_or (bit_xor (bit_or b lb) lb) (bit_xor (bit_or w lw) lw)) (set_of (n * n) f) (λ p.
     has_or (bit_xor (bit_or b lb) lb) (bit_xor (bit_or w lw) lw) p
@@ -78,7 +78,7 @@ dead_is n b w lb lw on-b on-w eb ew =
     ∙ elim (cases_lt p (n * n)) [
       | inl l ↦ sym (has_set (n * n) f p l)
       | inr g ↦
-          ap₂ (λ x y. (x && not (has (living n b (free_of n b w)) p)) || (y && not (has (living n w (free_of n b w)) p))) (has_none (n * n) b p on-b g) (has_none (n * n) w p on-w g)
+          ap₂ (λ x y. (x && not (has (living n b (free_of n b w)) p)) || (y && not (has (living n w (free_of n b w)) p))) (has_none (n * n) b p on_b g) (has_none (n * n) w p on_w g)
           ∙ sym (has_none (n * n) (set_of (n * n) f) p (set_lt (n * n) f) g)
     ])
   where
@@ -94,22 +94,22 @@ unfolding stones_of
 stones_word n c t = set_lt (n * n) _
 
 -- the answer to a text in form, and what it tells
-module _ (t : List ℕ) (n b w : ℕ) (fine : None ≡ text_fault t) (n-is : n ≡ lines_of t) (b-is : b ≡ stones_of n 66 t) (w-is : w ≡ stones_of n 87 t) where
+module _ (t : List ℕ) (n b w : ℕ) (fine : None ≡ text_fault t) (n_is : n ≡ lines_of t) (b_is : b ≡ stones_of n 66 t) (w_is : w ≡ stones_of n 87 t) where
   black_is : b ≡ stones_of (lines_of t) 66 t
-  black_is = b-is ∙ ap (λ (m : ℕ). stones_of m 66 t) n-is
+  black_is = b_is ∙ ap (λ (m : ℕ). stones_of m 66 t) n_is
 
   white_is : w ≡ stones_of (lines_of t) 87 t
-  white_is = w-is ∙ ap (λ (m : ℕ). stones_of m 87 t) n-is
+  white_is = w_is ∙ ap (λ (m : ℕ). stones_of m 87 t) n_is
 
   pub form_answer : (o : Option ℕ) → o ≡ dead_point n b w → first_fault None o ≡ read_fault t
   form_answer o dead =
-      ap (first_fault None) (dead ∙ λ i. dead_point (n-is i) (black_is i) (white_is i))
+      ap (first_fault None) (dead ∙ λ i. dead_point (n_is i) (black_is i) (white_is i))
       ∙ ap (λ o. first_fault o (dead_point (lines_of t) (stones_of (lines_of t) 66 t) (stones_of (lines_of t) 87 t))) fine
 
   pub told : (s : Side) (x : Place) → s ≡ side_of t → x ≡ place_of n b w s → Told t n x
-  told s x s-is x-is = record {
-    lines = n-is;
-    start = x-is ∙ λ i. place_of (n-is i) (black_is i) (white_is i) (s-is i);
+  told s x s_is x_is = record {
+    lines = n_is;
+    start = x_is ∙ λ i. place_of (n_is i) (black_is i) (white_is i) (s_is i);
   }
 
 pub start_good : (t : List ℕ) (n : ℕ) (x : Place) → Told t n x → Position n x
@@ -120,6 +120,6 @@ start_good t n x told =
 
 -- what the parts of a text ask for
 pub form_at : (t : List ℕ) (n : ℕ) → None ≡ text_fault t → n ≡ lines_of t → (n ≤ 7) × (5 + n * n ≤ length t)
-form_at t n fine n-is =
+form_at t n fine n_is =
     let form = in_form t (sym fine) in
-    (omega (arith, form.high), subst (λ (m : ℕ). 5 + m * m ≤ length t) (sym n-is) form.long)
+    (omega (arith, form.high), subst (λ (m : ℕ). 5 + m * m ≤ length t) (sym n_is) form.long)

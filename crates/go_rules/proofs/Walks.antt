@@ -150,7 +150,7 @@ module _ (n : ℕ) (high : n ≤ 7) (start : Place) (position : Position n start
         ]
 
     pub walked_more : length stood ≡ 97 → next ≡ after n (standing n start (line_of ks i)) k → Walked n start (set ks i k) (set stood (i + 1) next) (i + 1)
-    walked_more longer next-is j le =
+    walked_more longer next_is j le =
         elim (cases_lt j (i + 1)) [
           | inl less ↦
               let ne : j ≢ i + 1 = omega arith in
@@ -158,7 +158,7 @@ module _ (n : ℕ) (high : n ≤ 7) (start : Place) (position : Position n start
               (get_or-set_other stood (i + 1) j next _ ne ∙ walked_at j (omega arith) ∙ ap (standing n start) (sym (line_kept j (omega arith))))
           | inr past ↦
               let e : i + 1 ≡ j = omega arith in
-              let there : next ≡ standing n start (line_of (set ks i k) (i + 1)) = next-is ∙ ap (standing n start) (sym (line_more ks i k (omega arith))) in
+              let there : next ≡ standing n start (line_of (set ks i k) (i + 1)) = next_is ∙ ap (standing n start) (sym (line_more ks i k (omega arith))) in
               as_place _ _
               (subst (λ (j : ℕ). place_at (set stood (i + 1) next) j ≡ standing n start (line_of (set ks i k) j)) e
               (get_or-set_same stood (i + 1) next _ (omega arith) ∙ there))

@@ -55,9 +55,9 @@ module _ (m : Meaning) (law : Lawful m) where
   same_ends p q bisim rp rq np nq w r =
       let on = bisim w r in
       let P : ℕ → ℕ → Type 0 = λ a b. has_position m a b q ≡ false in
-      let none-q = none_after q w on.0 rq nq in
+      let none_q = none_after q w on.0 rq nq in
       same_within p q _ _ bisim (none_after p w r rp np)
-      (ap₂ (λ a b. has_position m a b q) on.1.a on.1.b ∙ none-q) w r
+      (ap₂ (λ a b. has_position m a b q) on.1.a on.1.b ∙ none_q) w r
       ∙ ap₂ (λ a b. has_position m a b (w ++ q)) on.1.a on.1.b
 
   repeated_agreeing : Agreeing m (repeat_layer m)

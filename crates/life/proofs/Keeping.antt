@@ -53,9 +53,9 @@ module _ {S : Type 0} {𝓢 : StoreMeaning S} (x : Session 𝓢) where
   told_true e h floor v (inr y) = accepted_proofs_are_true e h floor v y
 
   enough_is_never_used_up : EnoughIsNeverUsedUp x
-  enough_is_never_used_up l h floor budget enough-plays =
+  enough_is_never_used_up l h floor budget enough_plays =
       always_map (Within budget (enough (x.height - length l))) WithinBudget (solving x.game l floor budget)
-      (within budget (enough (x.height - length l)) enough-plays)
+      (within budget (enough (x.height - length l)) enough_plays)
       (budget_enough x.game x.height x.lawful x.bounded l (present_reached l h) floor budget)
 
 module _ {S R : Type 0} {𝓢 : StoreMeaning S} {𝓡 : StoreMeaning R} (x : Session 𝓢) (y : Session 𝓡) where
@@ -77,10 +77,10 @@ module _ {S R : Type 0} {𝓢 : StoreMeaning S} {𝓡 : StoreMeaning R} (x : Ses
       is_proof = ((right x e h).wrote bytes floor v p).1
 
       accepts : (budget : ℕ) → plays ≤ budget → checking y.game l bytes budget ≡ accepted floor v (length bytes) plays
-      accepts budget enough-plays =
+      accepts budget enough_plays =
           sym (bisimilar_checked x.game y.game e.line l ((lived x).then e h).0 alike bytes budget)
           ∙ accepts_proofs.all x.game e.line bytes budget floor plays v (λ q r. (x.lawful.fit q r).moves) ((lived x).then e h).0 is_proof
-          enough-plays
+          enough_plays
 
       accepts_in : (budget : ℕ) (w : Memory) → Covers w budget plays →
           check_in w.lines w.moves y.game l bytes budget ≡ accepted floor v (length bytes) plays

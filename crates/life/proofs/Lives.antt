@@ -9,7 +9,7 @@ use Rattle.search_method.specs.declared.kinds.Answer.{Answer as Found}
 use Rattle.search_method.specs.declared.kinds.Answer.TheVariants.{Solved, OutOfBudget}
 use Rattle.search_method.specs.Refusals.{is_floor, memory_suffices, refusal_due}
 use Rattle.search_method.specs.Tree.{Runs}
-use Rattle.search_method.specs.Truth.{AllSound, Right as Right-search}
+use Rattle.search_method.specs.Truth.{AllSound, Right as RightSearch}
 use Rattle.search_method.proofs.Truth.{verdicts_true}
 use Rattle.proof_method.specs.Check.{Checked, accepted, faulty, check as checking, check_in}
 use Rattle.proof_method.specs.Write.{Written, proof, unwritten, write as writing, unless, write_in}
@@ -70,7 +70,7 @@ module _ (m : Meaning) (H : ℕ) (lawful : Lawful m) (law : BoundedBy m H) where
         wrote = λ bytes floor v y. absurd (not_wrote y x);
       }
 
-  found_right : (l : Line) (floor budget : ℕ) (w : Memory) (r : Found) → Right-search m H floor l r → Right l (Call.solve floor budget w) (Answer.found r)
+  found_right : (l : Line) (floor budget : ℕ) (w : Memory) (r : Found) → RightSearch m H floor l r → Right l (Call.solve floor budget w) (Answer.found r)
   found_right l floor budget w (OutOfBudget count) x = silent l (Call.solve floor budget w) (Answer.found (OutOfBudget count)) tt
   found_right l floor budget w (Solved v move count) x =
       record { verdict = by; accepted = λ f v y. elim y [ ]; wrote = λ bytes f v y. elim y [ ] }

@@ -9,7 +9,7 @@ use Rattle.search_method.specs.Refusals.{refusal_due}
 use Rattle.search_method.specs.Tree.{Runs}
 use Rattle.search_method.specs.Search.{solve as solving}
 use Rattle.proof_method.specs.Check.{Checked, check_in}
-use Rattle.proof_method.specs.Write.{Written, write_in, buffer as bufferAfter}
+use Rattle.proof_method.specs.Write.{Written, write_in, buffer as buffer_after}
 
 -- work memory, in line records and move records
 pub record Memory : Type 0 where
@@ -50,7 +50,7 @@ pub data Step {S : Type 0} (m : Meaning) (𝓢 : StoreMeaning S) : Line → S �
       refusal_due floor w.lines w.moves ≡ Some n → Step m 𝓢 l s (solve floor budget w) (refused n) l s
   written : {l : Line} {s t : S} {floor budget : ℕ} {buffer : List ℕ} {w : Memory} {r : Written} →
       Runs 𝓢 (write_in w.lines w.moves m l floor budget (length buffer)) s t r →
-      Step m 𝓢 l s (write floor budget buffer w) (wrote r (bufferAfter buffer r)) l t
+      Step m 𝓢 l s (write floor budget buffer w) (wrote r (buffer_after buffer r)) l t
   walked : {l : Line} {s : S} {bytes : List ℕ} {budget : ℕ} {w : Memory} →
       Step m 𝓢 l s (check bytes budget w) (checked (check_in w.lines w.moves m l bytes budget)) l s
 

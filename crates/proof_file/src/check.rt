@@ -1,6 +1,6 @@
 // Checking a proof file.
 ghost use Rattle.std.specs.Prelude.{◌≡◌, ◌≤◌, length, None};
-ghost use Rattle.proof_method.specs.Check.{check as checkOf, check_in};
+ghost use Rattle.proof_method.specs.Check.{check as check_of, check_in};
 ghost use Rattle.proof_method.specs.Restored.{Restored};
 ghost use Rattle.proof_file.specs.Faults.{Within, Walks, Descends, GoesThrough, checked_by, proof_of};
 
@@ -167,7 +167,7 @@ fn walk<G: Bounded>(
 
 // The claim, then the walk.
 fn check_bytes<G: Bounded>(game: &mut G, proof: &[u8], budget: u32) -> Result<CheckedProof, Fault>
-    ensures is { checked_by result ≡ checkOf (G.Game.means game.old) (G.Game.line game.old) proof.now budget }
+    ensures is { checked_by result ≡ check_of (G.Game.means game.old) (G.Game.line game.old) proof.now budget }
     ensures restored { Restored G.Game.means G.Game.line game.old game.new }
 {
     let Some(floor) = read_number(proof, 0) else {

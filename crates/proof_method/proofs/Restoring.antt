@@ -16,8 +16,8 @@ restored_then p q = record { same = q.same ∙ p.same; back = q.back ∙ p.back 
 -- a move is played, the game comes back to the line after it, and the move is taken back
 pub visited : {G : Type 0} {means : G → Meaning} {line : G → Line} {a b c d : G} {k : ℕ} → means b ≡ means a → line b ≡ k ∷ line a →
     Restored means line b c → means d ≡ means c → line d ≡ shorter (line c) → Restored means line a d
-visited same goes restored back-same back-goes =
-    record { same = back-same ∙ restored.same ∙ same; back = back-goes ∙ ap shorter (restored.back ∙ goes) }
+visited same goes restored back_same back_goes =
+    record { same = back_same ∙ restored.same ∙ same; back = back_goes ∙ ap shorter (restored.back ∙ goes) }
 
 pub residual_is : {A E : Type 0} (r : Result A E) (e : E) → IsErrAnd r (λ x. x ≡ e) → r ≡ Err e
 residual_is (Ok s) e h = absurd h

@@ -332,8 +332,8 @@ no_stray 𝓢 m H lawful law l r floor low high stray budget room s t n all run 
     (g.0, g.1)
 
 pub claim_found : {S : Type 0} (𝓢 : StoreMeaning S) → ClaimFound 𝓢
-claim_found 𝓢 m H lawful law l r floor low high budget s t v w k count all z b true-here run =
+claim_found 𝓢 m H lawful law l r floor low high budget s t v w k count all z b true_here run =
     let right = (verdicts_true 𝓢 m H lawful law l r floor low high budget s t (Solved w k count) all run).0 in
-    let same : w ≡ v = sym right.value ∙ true-here in
+    let same : w ≡ v = sym right.value ∙ true_here in
     let found = right.keeps z (same ∙ sym b) in
     (same, found.0, found.1 ∙ same)

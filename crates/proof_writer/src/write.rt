@@ -2,7 +2,7 @@
 ghost use Rattle.std.specs.Prelude.{◌≡◌, ◌≤◌, length};
 ghost use Rattle.search_method.specs.Tree.{Runs};
 ghost use Rattle.proof_method.specs.Restored.{Restored};
-ghost use Rattle.proof_method.specs.Write.{write as writeOf, write_in, buffer};
+ghost use Rattle.proof_method.specs.Write.{write as write_of, write_in, buffer};
 ghost use Rattle.proof_writer.specs.Writing.{written_by, Fits, Past};
 
 use crate::finding::find;
@@ -34,7 +34,7 @@ fn put_proof<G: Bounded, S: Store>(
 ) -> Result<Written, WriteRefusal>
     requires floor { (1 ≤ floor) × (floor ≤ 2) }
     requires memory { (97 ≤ length lines.old) × (6_208 ≤ length moves.old) }
-    ensures is { Runs S.Store.store (writeOf (G.Game.means game.old) (G.Game.line game.old) floor budget (length out.old)) store.old store.new (written_by out.new result) }
+    ensures is { Runs S.Store.store (write_of (G.Game.means game.old) (G.Game.line game.old) floor budget (length out.old)) store.old store.new (written_by out.new result) }
     ensures past { Past out.old out.new result }
     ensures restored { Restored G.Game.means G.Game.line game.old game.new }
 {

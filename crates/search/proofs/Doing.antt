@@ -33,8 +33,8 @@ kept_trans p q = record { same = q.same ∙ p.same; back = q.back ∙ p.back }
 -- a move is played, something is done there that keeps the game, and the move is taken back
 pub visited : {G : Type 0} {means : G → Meaning} {line : G → Line} {a b c d : G} {k : ℕ}
     → means b ≡ means a → line b ≡ k ∷ line a → Kept means line b c → means d ≡ means c → line d ≡ shorter (line c) → Kept means line a d
-visited same goes kept back-same back-goes =
-    record { same = back-same ∙ kept.same ∙ same; back = back-goes ∙ ap shorter (kept.back ∙ goes) }
+visited same goes kept back_same back_goes =
+    record { same = back_same ∙ kept.same ∙ same; back = back_goes ∙ ap shorter (kept.back ∙ goes) }
 
 -- where a line of a bounded game goes on, moves are left
 pub moves_left_lem : (m : Meaning) (l : Line) → Bounded m → Room m l → (m.view l).score ≡ None → 0 < moves_left m l

@@ -91,9 +91,9 @@ module _ {S : Type 0} (𝓢 : StoreMeaning S) where
       → Expands s t n floor l' limit one_less r after → Moved s t m floor l k limit before r after
   moved s t m n floor l l' k limit before one_less r after some_left e same goes there =
       let pos : 0 < before = could_play before some_left in
-      let less-deep : moves_left m (k ∷ l) ≡ moves_left m l - 1 = omega arith in
+      let less_deep : moves_left m (k ∷ l) ≡ moves_left m l - 1 = omega arith in
       rw (play_more (expand m floor (moves_left m l - 1) (k ∷ l) limit) before pos)
-      (subst (λ d. Does 𝓢 (expand m floor d (k ∷ l) limit) s t (before - 1) r after) less-deep
+      (subst (λ d. Does 𝓢 (expand m floor d (k ∷ l) limit) s t (before - 1) r after) less_deep
       (subst₃ (λ (m : Meaning) (l : Line) (n : ℕ). Expands s t m floor l limit n r after) same goes e there))
 
   pub moved_kept : {G : Type 0} (means : G → Meaning) (line : G → Line) (g h : G) → Kept means line g h
@@ -117,10 +117,10 @@ module _ {S : Type 0} (𝓢 : StoreMeaning S) where
       → Moved s t m floor l (choice_of (black_moves (m.view l)) ps) (limits_of (black_moves (m.view l)) limit ps) left q between
       → Runs 𝓢 (resume m floor (turns m floor (expand m floor (moves_left m l - 1)) (f - 1) l limit) l ps (came q between)) t u (came r after)
       → Does 𝓢 (turns m floor (expand m floor (moves_left m l - 1)) f l limit ps) s u left r after
-  turn_deepens m floor l limit ps s t u left between q r after f pos open-yet move go_on =
+  turn_deepens m floor l limit ps s t u left between q r after f pos open_yet move go_on =
       subst (λ (x : Tree (Out Worked)). Runs 𝓢 x s u (came r after)) (sym (turns_more m floor (expand m floor (moves_left m l - 1)) f l limit ps left pos))
       (subst (λ b. Runs 𝓢 (either b (leave m floor l ps)
-      (λ n'. bind (played (expand m floor (moves_left m l - 1) (choice_of (black_moves (m.view l)) ps ∷ l) (limits_of (black_moves (m.view l)) limit ps)) n') (resume m floor (turns m floor (expand m floor (moves_left m l - 1)) (f - 1) l limit) l ps)) left) s u (came r after)) (sym open-yet)
+      (λ n'. bind (played (expand m floor (moves_left m l - 1) (choice_of (black_moves (m.view l)) ps ∷ l) (limits_of (black_moves (m.view l)) limit ps)) n') (resume m floor (turns m floor (expand m floor (moves_left m l - 1)) (f - 1) l limit) l ps)) left) s u (came r after)) (sym open_yet)
       (runs_bind 𝓢 (played (expand m floor (moves_left m l - 1) (choice_of (black_moves (m.view l)) ps ∷ l) (limits_of (black_moves (m.view l)) limit ps)) left)
       (resume m floor (turns m floor (expand m floor (moves_left m l - 1)) (f - 1) l limit) l ps) s t u (came q between) (came r after) move go_on))
 
@@ -128,26 +128,26 @@ module _ {S : Type 0} (𝓢 : StoreMeaning S) where
   chosen : (m : Meaning) (floor : ℕ) (l : Line) (limit : Pair) (ps : List Pair) (s t : S) (black : Bool) (k : ℕ) (next : Pair) (left : ℕ) (q : Option Worked) (after : ℕ)
       → black ≡ black_moves (m.view l) → k ≡ choice_of black ps → next ≡ limits_of black limit ps → Moved s t m floor l k next left q after
       → Moved s t m floor l (choice_of (black_moves (m.view l)) ps) (limits_of (black_moves (m.view l)) limit ps) left q after
-  chosen m floor l limit ps s t black k next left q after side is-k is-next move =
+  chosen m floor l limit ps s t black k next left q after side is_k is_next move =
       subst₂ (λ (k : ℕ) (n : Pair). Moved s t m floor l k n left q after)
-      (is-k ∙ ap (λ b. choice_of b ps) side) (is-next ∙ ap (λ b. limits_of b limit ps) side) move
+      (is_k ∙ ap (λ b. choice_of b ps) side) (is_next ∙ ap (λ b. limits_of b limit ps) side) move
 
   pub turning_more : (m : Meaning) (floor : ℕ) (l : Line) (limit : Pair) (s : S) (ps : List Pair) (before : ℕ) (s' : S) (ps' : List Pair) (left : ℕ)
       (t : S) (black : Bool) (k : ℕ) (next : Pair) (q : Worked) (after : ℕ)
       → black ≡ black_moves (m.view l) → reached limit (pair_of black ps') ≡ false → k ≡ choice_of black ps' → next ≡ limits_of black limit ps' → after < left
       → Turning m floor l limit s ps before s' ps' left → Moved s' t m floor l k next left (Some q) after
       → Turning m floor l limit s ps before t (set ps' k q.pair) after
-  turning_more m floor l limit s ps before s' ps' left t black k next q after side open-yet is-k is-next falls so_far move =
-      let same-k : k ≡ choice_of (black_moves (m.view l)) ps' = is-k ∙ ap (λ b. choice_of b ps') side in
-      let not_yet : reached limit (line_pair m l ps') ≡ false = subst (λ b. reached limit (pair_of b ps') ≡ false) side open-yet in
+  turning_more m floor l limit s ps before s' ps' left t black k next q after side open_yet is_k is_next falls so_far move =
+      let same_k : k ≡ choice_of (black_moves (m.view l)) ps' = is_k ∙ ap (λ b. choice_of b ps') side in
+      let not_yet : reached limit (line_pair m l ps') ≡ false = subst (λ b. reached limit (pair_of b ps') ≡ false) side open_yet in
       record {
         less = omega (arith, so_far.less);
         rest = λ u r end h.
             so_far.rest u r end
             (λ f lt.
             turn_deepens m floor l limit ps' s' t u left after (Some q) r end f (omega arith) not_yet
-            (chosen m floor l limit ps' s' t black k next left (Some q) after side is-k is-next move)
-            (subst (λ n. Does 𝓢 (turns m floor (expand m floor (moves_left m l - 1)) (f - 1) l limit (set ps' n q.pair)) t u after r end) same-k (h (f - 1) (omega arith))));
+            (chosen m floor l limit ps' s' t black k next left (Some q) after side is_k is_next move)
+            (subst (λ n. Does 𝓢 (turns m floor (expand m floor (moves_left m l - 1)) (f - 1) l limit (set ps' n q.pair)) t u after r end) same_k (h (f - 1) (omega arith))));
       }
 
   -- no play is left for what is below
@@ -157,15 +157,15 @@ module _ {S : Type 0} (𝓢 : StoreMeaning S) where
       → Turning m floor l limit s ps before s' ps' left → Moved s' t m floor l k next left None after
       → 𝓢.records t e u → e ≡ entry m floor l (Open (pair_of black ps').pn (pair_of black ps').dn)
       → Settles s u m floor l limit ps before None after
-  turning_exhausted m floor l limit s ps before s' ps' left t u black k next after e side open-yet is-k is-next so_far move noted is-e =
-      let not_yet : reached limit (line_pair m l ps') ≡ false = subst (λ b. reached limit (pair_of b ps') ≡ false) side open-yet in
-      let same-e : e ≡ entry m floor l (Open (line_pair m l ps').pn (line_pair m l ps').dn) =
-      is-e ∙ ap (λ b. entry m floor l (Open (pair_of b ps').pn (pair_of b ps').dn)) side in
+  turning_exhausted m floor l limit s ps before s' ps' left t u black k next after e side open_yet is_k is_next so_far move noted is_e =
+      let not_yet : reached limit (line_pair m l ps') ≡ false = subst (λ b. reached limit (pair_of b ps') ≡ false) side open_yet in
+      let same_e : e ≡ entry m floor l (Open (line_pair m l ps').pn (line_pair m l ps').dn) =
+      is_e ∙ ap (λ b. entry m floor l (Open (pair_of b ps').pn (pair_of b ps').dn)) side in
       so_far.rest u None after
       (λ f lt.
       turn_deepens m floor l limit ps' s' t u left after None None after f (omega arith) not_yet
-      (chosen m floor l limit ps' s' t black k next left None after side is-k is-next move)
-      (u, subst (λ (x : Entry). 𝓢.records t x u) same-e noted, (refl, refl)))
+      (chosen m floor l limit ps' s' t black k next left None after side is_k is_next move)
+      (u, subst (λ (x : Entry). 𝓢.records t x u) same_e noted, (refl, refl)))
 
   -- a limit is reached and the line is left
   pub turning_left : (m : Meaning) (floor : ℕ) (l : Line) (limit : Pair) (s : S) (ps : List Pair) (before : ℕ) (s' : S) (ps' : List Pair) (left : ℕ)
@@ -174,11 +174,11 @@ module _ {S : Type 0} (𝓢 : StoreMeaning S) where
       → pair ≡ pair_of black ps' → x ≡ finding_of black independent ps'
       → Turning m floor l limit s ps before s' ps' left → 𝓢.records s' e u → e ≡ entry m floor l x
       → Settles s u m floor l limit ps before (Some (record { pair = pair; finding = x })) left
-  turning_left m floor l limit s ps before s' ps' left u black independent pair x e side free at_limit is-pair is_x so_far noted is-e =
+  turning_left m floor l limit s ps before s' ps' left u black independent pair x e side free at_limit is_pair is_x so_far noted is_e =
       let there : reached limit (line_pair m l ps') ≡ true = subst (λ b. reached limit (pair_of b ps') ≡ true) side at_limit in
-      let same-pair : pair ≡ line_pair m l ps' = is-pair ∙ ap (λ b. pair_of b ps') side in
-      let same-x : x ≡ outcome m l ps' = is_x ∙ ((λ i. finding_of (side i) (free i) ps') ∙ finding_is m l ps') in
-      let same-e : e ≡ entry m floor l (outcome m l ps') = is-e ∙ ap (entry m floor l) same-x in
+      let same_pair : pair ≡ line_pair m l ps' = is_pair ∙ ap (λ b. pair_of b ps') side in
+      let same_x : x ≡ outcome m l ps' = is_x ∙ ((λ i. finding_of (side i) (free i) ps') ∙ finding_is m l ps') in
+      let same_e : e ≡ entry m floor l (outcome m l ps') = is_e ∙ ap (entry m floor l) same_x in
       so_far.rest u (Some (record { pair = pair; finding = x })) left
       (λ f lt.
       subst (λ (y : Tree (Out Worked)). Runs 𝓢 y s' u (got (record { pair = pair; finding = x }) left))
@@ -186,8 +186,8 @@ module _ {S : Type 0} (𝓢 : StoreMeaning S) where
       (subst (λ b. Runs 𝓢 (either b (leave m floor l ps')
       (λ n'. bind (played (expand m floor (moves_left m l - 1) (choice_of (black_moves (m.view l)) ps' ∷ l) (limits_of (black_moves (m.view l)) limit ps')) n') (resume m floor (turns m floor (expand m floor (moves_left m l - 1)) (f - 1) l limit) l ps')) left) s' u (got (record { pair = pair; finding = x }) left)) (sym there) (
         u,
-        subst (λ (y : Entry). 𝓢.records s' y u) same-e noted,
-        (refl, (λ i. got (record { pair = sym same-pair i; finding = sym same-x i }) left)),
+        subst (λ (y : Entry). 𝓢.records s' y u) same_e noted,
+        (refl, (λ i. got (record { pair = sym same_pair i; finding = sym same_x i }) left)),
       )))
 
   -- no move may be left

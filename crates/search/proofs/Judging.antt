@@ -82,12 +82,12 @@ module _ {S : Type 0} (𝓢 : StoreMeaning S) where
   pub judged_move : (s : S) (m n : Meaning) (floor : ℕ) (l l' : Line) (k before one_less : ℕ) (r : Option Pair) (after : ℕ)
       → Some (tt {0}) ≡ cond (eqb before 0) None (Some (tt {0})) → one_less ≡ before - 1 → n ≡ m → l' ≡ k ∷ l
       → Judged s n floor l' one_less r after → JudgedMove s m floor l k before r after
-  judged_move s m n floor l l' k before one_less r after some_left e same goes judged-there =
+  judged_move s m n floor l l' k before one_less r after some_left e same goes judged_there =
       let pos : 0 < before = could_play before some_left in
-      let less-deep : moves_left m (k ∷ l) ≡ moves_left m l - 1 = omega arith in
+      let less_deep : moves_left m (k ∷ l) ≡ moves_left m l - 1 = omega arith in
       rw (play_more (judge m floor (moves_left m l - 1) (k ∷ l)) before pos)
-      (subst (λ d. Does 𝓢 (judge m floor d (k ∷ l)) s s (before - 1) r after) less-deep
-      (subst₃ (λ (m : Meaning) (l : Line) (n : ℕ). Judged s m floor l n r after) same goes e judged-there))
+      (subst (λ d. Does 𝓢 (judge m floor d (k ∷ l)) s s (before - 1) r after) less_deep
+      (subst₃ (λ (m : Meaning) (l : Line) (n : ℕ). Judged s m floor l n r after) same goes e judged_there))
 
   pub judged_kept : {G : Type 0} (means : G → Meaning) (line : G → Line) (g h : G) → Kept means line g h → (s : S) (floor k before : ℕ) (r : Option Pair) (after : ℕ)
       → JudgedMove s (means h) floor (line h) k before r after → JudgedMove s (means g) floor (line g) k before r after

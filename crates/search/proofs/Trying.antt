@@ -87,9 +87,9 @@ module _ {S : Type 0} (𝓢 : StoreMeaning S) where
       → Holds s n floor v l' one_less r after → Tried s m floor v l k before r after
   tried s m n floor v l l' k before one_less r after some_left e same goes sim =
       let pos : 0 < before = could_play before some_left in
-      let less-deep : moves_left m (k ∷ l) ≡ moves_left m l - 1 = omega arith in
+      let less_deep : moves_left m (k ∷ l) ≡ moves_left m l - 1 = omega arith in
       rw (play_more (onward m floor v l (k ∷ l)) before pos)
-      (subst (λ d. Does 𝓢 (holds_at m floor (simulate m floor d (k ∷ l) v) (k ∷ l) v) s s (before - 1) r after) less-deep
+      (subst (λ d. Does 𝓢 (holds_at m floor (simulate m floor d (k ∷ l) v) (k ∷ l) v) s s (before - 1) r after) less_deep
       (subst₃ (λ (m : Meaning) (l : Line) (n : ℕ). Holds s m floor v l n r after) same goes e sim))
 
   pub tried_kept : {G : Type 0} (means : G → Meaning) (line : G → Line) (g h : G) → Kept means line g h → (s : S) (floor : ℕ) (v : Bool) (k before : ℕ) (r : Option Bool) (after : ℕ)
@@ -119,8 +119,8 @@ module _ {S : Type 0} (𝓢 : StoreMeaning S) where
 
   pub trying_more : (s : S) (m : Meaning) (floor : ℕ) (v : Bool) (l : Line) (moves before k left after : ℕ) (held : Bool) → k < moves → after ≤ left → held ≡ true
       → Trying s m floor v l moves before k left → Tried s m floor v l k left (Some held) after → Trying s m floor v l moves before (k + 1) after
-  trying_more s m floor v l moves before k left after held lt le e so_far tried-held =
-      let one : Tried s m floor v l k left (Some true) after = subst (λ b. Tried s m floor v l k left (Some b) after) e tried-held in
+  trying_more s m floor v l moves before k left after held lt le e so_far tried_held =
+      let one : Tried s m floor v l k left (Some true) after = subst (λ b. Tried s m floor v l k left (Some b) after) e tried_held in
       let up : k + 1 ≡ suc k = omega arith in
       record {
         less = omega (arith, so_far.less);
@@ -134,8 +134,8 @@ module _ {S : Type 0} (𝓢 : StoreMeaning S) where
   pub trying_fails : (s : S) (m : Meaning) (floor : ℕ) (v : Bool) (l : Line) (moves before k left after : ℕ) (held : Bool) → k < moves → held ≡ false
       → Trying s m floor v l moves before k left → Tried s m floor v l k left (Some held) after
       → Tries s m floor v l 0 moves before (Some false) after
-  trying_fails s m floor v l moves before k left after held lt e so_far tried-held =
-      let one : Tried s m floor v l k left (Some false) after = subst (λ b. Tried s m floor v l k left (Some b) after) e tried-held in
+  trying_fails s m floor v l moves before k left after held lt e so_far tried_held =
+      let one : Tried s m floor v l k left (Some false) after = subst (λ b. Tried s m floor v l k left (Some b) after) e tried_held in
       rest_from s m floor v l moves before k left lt so_far (Some false) after
       (does_then 𝓢 (played (onward m floor v l (k ∷ l))) _ s s s left after after false (Some false) one (refl, refl))
 

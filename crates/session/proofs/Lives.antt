@@ -15,7 +15,7 @@ pub lived_next : {S : Type 0} (m n : Meaning) (𝓢 : StoreMeaning S) (start : L
     Lived m 𝓢 start given w d (take i requests) (take i replies) l s b →
     Step n 𝓢 l s (call_of v b (get_or requests i q)) (answer_of c.bytes r) k t → Leaves r b c →
     Lived m 𝓢 start given w d (take (i + 1) requests) (take (i + 1) (set replies i r)) k t c
-lived_next m n 𝓢 start given w v d b c requests replies i q r l k s t asked room same-game same_memory lived step leaves =
+lived_next m n 𝓢 start given w v d b c requests replies i q r l k s t asked room same_game same_memory lived step leaves =
     record {
       past = event ∷ lived.past;
       life = Life.lived lived.life step_here;
@@ -29,7 +29,7 @@ lived_next m n 𝓢 start given w v d b c requests replies i q r l k s t asked r
 
     step_here : Step m 𝓢 l s (call_of w b (get_or requests i q)) (answer_of c.bytes r) k t
     step_here =
-        subst₂ (λ (x : Meaning) (u : Memory). Step x 𝓢 l s (call_of u b (get_or requests i q)) (answer_of c.bytes r) k t) same-game same_memory step
+        subst₂ (λ (x : Meaning) (u : Memory). Step x 𝓢 l s (call_of u b (get_or requests i q)) (answer_of c.bytes r) k t) same_game same_memory step
 
 -- the replies past those made stay
 pub rest_next : (xs ys : List Reply) (i : ℕ) (r : Reply) → drop i xs ≡ drop i ys → drop (i + 1) (set xs i r) ≡ drop (i + 1) ys

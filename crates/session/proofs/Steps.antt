@@ -9,7 +9,7 @@ use Rattle.game.specs.Refusals.{refusal_number, play_answer, line_after, played_
 use Rattle.store.specs.Interface.{StoreMeaning}
 use Rattle.search_method.specs.declared.kinds.Answer.{Answer as Found}
 use Rattle.search_method.specs.declared.kinds.SolveRefusal.{SolveRefusal}
-use Rattle.search_method.specs.Refusals.{refusal_number as solveNumber, refusal_due}
+use Rattle.search_method.specs.Refusals.{refusal_number as solve_number, refusal_due}
 use Rattle.search_method.specs.Search.{solve as solving}
 use Rattle.search.specs.Solve.{Answers}
 use Rattle.search_method.specs.Tree.{Runs}
@@ -77,14 +77,14 @@ module _ {S : Type 0} (m : Meaning) (𝓢 : StoreMeaning S) where
 
   pub not_solved_step : (l k : Line) (s t : S) (floor budget : ℕ) (w : Memory) (r : SolveRefusal) →
       Answers 𝓢 (solving m l floor budget) (refusal_due floor w.lines w.moves) s t (Err r) → k ≡ l →
-      Step m 𝓢 l s (Call.solve floor budget w) (Answer.refused (solveNumber r)) k t
+      Step m 𝓢 l s (Call.solve floor budget w) (Answer.refused (solve_number r)) k t
   not_solved_step l k s t floor budget w r x z = by (refusal_due floor w.lines w.moves) refl x
     where
       by : (o : Option ℕ) → refusal_due floor w.lines w.moves ≡ o → Answers 𝓢 (solving m l floor budget) o s t (Err r) →
-          Step m 𝓢 l s (Call.solve floor budget w) (Answer.refused (solveNumber r)) k t
+          Step m 𝓢 l s (Call.solve floor budget w) (Answer.refused (solve_number r)) k t
       by None e run = absurd run
       by (Some n) e (number, same) =
-          put m 𝓢 l k s t (sym same) (Call.solve floor budget w) (Answer.refused (solveNumber r)) l z (Step.not_solved (e ∙ sym number))
+          put m 𝓢 l k s t (sym same) (Call.solve floor budget w) (Answer.refused (solve_number r)) l z (Step.not_solved (e ∙ sym number))
 
   pub written_step : (l k : Line) (s t : S) (floor budget : ℕ) (before after : List ℕ) (w : Memory) (r : Written) →
       Runs 𝓢 (write_in w.lines w.moves m l floor budget (length before)) s t r → after ≡ buffer before r → k ≡ l →

@@ -2,7 +2,7 @@
 use Rattle.std.specs.Prelude.{◌≡◌, ℕ, List, [], ◌∷◌, ◌++◌, length, take, Ok, Err}
 use Rattle.game.specs.Meaning.{Line}
 use Rattle.game.specs.Refusals.{refusal_number}
-use Rattle.search_method.specs.Refusals.{refusal_number as solveNumber}
+use Rattle.search_method.specs.Refusals.{refusal_number as solve_number}
 use Rattle.proof_writer.specs.Writing.{written_by}
 use Rattle.proof_file.specs.Faults.{checked_by}
 use Rattle.life.specs.Life.{Memory, Call, play, take_back, clear, solve, write, check, Answer, done, refused, found, wrote, checked, Event}
@@ -38,7 +38,7 @@ answer_of after NotMade = refused 0
 answer_of after Done = done
 answer_of after (Refused r) = refused (refusal_number r)
 answer_of after (Solved a) = found a
-answer_of after (NotSolved r) = refused (solveNumber r)
+answer_of after (NotSolved r) = refused (solve_number r)
 answer_of after (Wrote p) = wrote (written_by after (Ok p)) after
 answer_of after (NotWritten r) = wrote (written_by after (Err r)) after
 answer_of after (Accepted p) = checked (checked_by (Ok p))

@@ -14,7 +14,7 @@ use Rattle.point_sets.specs.Points.{set_of}
 
 -- the legal moves are those of the game's rules
 told : (b : Board) (own foe r : ℕ) → r ≡ move_set b.n own foe → OnBoard b.n own → OnBoard b.n foe → Moves b.n own foe r
-told b own foe r e on-own on-foe = subst (Moves b.n own foe) (sym e) (moves_are b.n b.low b.high own foe on-own on-foe)
+told b own foe r e on_own on_foe = subst (Moves b.n own foe) (sym e) (moves_are b.n b.low b.high own foe on_own on_foe)
 
 pub returns-then-live-own : goal.returns-then-live-own
 returns-then-live-own c =

@@ -14,32 +14,32 @@ returns-in-OutOfBudget g c =
       restored = c.find.ensures.restored;
     }
 
-pub returns-in_err-end : goal.returns-in_err-end
-returns-in_err-end g c =
-    rw (residual_is c.from_residual.result c.in_err-end.field-0.0 c.from_residual.ensures.1) (record {
+pub returns-in_err-end-in-Solved : goal.returns-in_err-end-in-Solved
+returns-in_err-end-in-Solved g c =
+    rw (residual_is c.from_residual.result c.in_err-end-in-Solved.field-0.0 c.from_residual.ensures.1) (record {
       is =
           unfiled g.S.Store.store (g.G.Game.means c.args.game.now) (g.G.Game.line c.args.game.now) c.args.floor c.args.budget c.args.out.now c.args.store.now c.find.new.store
           c.in-Solved.yes c.in-Solved.best c.in-Solved.count c.in-Solved.ensures.runs c.put_file.new.out c.put_file.new.store c.put_file.result
           (starts_restored g.S.Store.store g.G.Game.means g.G.Game.line c.args.game.now c.find.new.game c.find.ensures.restored (record { floor = c.args.floor; yes = c.in-Solved.yes }) c.in-Solved.best (record { at = 0; left = c.args.budget - c.in-Solved.count }) c.args.out.now c.find.new.store c.put_file.new.out c.put_file.new.store c.put_file.result
           c.put_file.ensures.is)
-          c.in_err-end.field-0.0 c.in_err-end.was;
-      past = c.in_err-end.ensures.framed;
+          c.in_err-end-in-Solved.field-0.0 c.in_err-end-in-Solved.was;
+      past = c.in_err-end-in-Solved.ensures.framed;
       restored = restored_then c.find.ensures.restored c.put_file.ensures.restored;
     })
 
-pub returns-in_ok-end : goal.returns-in_ok-end
-returns-in_ok-end g c =
-    let frame = c.in_ok-end.ensures.framed in
+pub returns-in_ok-end-in-Solved : goal.returns-in_ok-end-in-Solved
+returns-in_ok-end-in-Solved g c =
+    let frame = c.in_ok-end-in-Solved.ensures.framed in
     record {
       is =
           filed g.S.Store.store (g.G.Game.means c.args.game.now) (g.G.Game.line c.args.game.now) c.args.floor c.args.budget c.args.out.now c.args.store.now c.find.new.store
           c.in-Solved.yes c.in-Solved.best c.in-Solved.count c.in-Solved.ensures.runs c.put_file.new.out c.put_file.new.store c.put_file.result
           (starts_restored g.S.Store.store g.G.Game.means g.G.Game.line c.args.game.now c.find.new.game c.find.ensures.restored (record { floor = c.args.floor; yes = c.in-Solved.yes }) c.in-Solved.best (record { at = 0; left = c.args.budget - c.in-Solved.count }) c.args.out.now c.find.new.store c.put_file.new.out c.put_file.new.store c.put_file.result
           c.put_file.ensures.is)
-          c.in_ok-end.end c.in_ok-end.was;
+          c.in_ok-end-in-Solved.end c.in_ok-end-in-Solved.was;
       past = (
         omega (arith, frame.1, c.put_file.auto.out),
-        buffer_is c.args.out.now c.put_file.new.out c.in_ok-end.end.at frame.1 c.put_file.auto.out frame.3,
+        buffer_is c.args.out.now c.put_file.new.out c.in_ok-end-in-Solved.end.at frame.1 c.put_file.auto.out frame.3,
       );
       restored = restored_then c.find.ensures.restored c.put_file.ensures.restored;
     }
