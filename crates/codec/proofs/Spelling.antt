@@ -1,6 +1,5 @@
 -- Reading at a place, byte by byte.
-use Rattle.std.proofs.Common.{◌≡◌, ℕ, zero, suc, ◌+◌, ◌-◌, ◌*◌, ◌^◌, ◌<◌, ◌≤◌, Bool, true, false, cond, eqb, ltb, ◌⊎◌, List, [], ◌∷◌, length, get_or, drop, Some, None, Option, sym, refl, ap, ◌∙◌, subst, ap₂, inl, inr, arith, length-drop, drop_of_length-le, drop-cons, drop-drop, pow_pos, pow_mono, pow-add, MatchOption}
-use native.Mathlib.Nat.{pow-zero}
+use Rattle.std.proofs.Common.{◌≡◌, ℕ, zero, suc, ◌+◌, ◌-◌, ◌*◌, ◌^◌, ◌<◌, ◌≤◌, Bool, true, false, cond, eqb, ltb, ◌⊎◌, List, [], ◌∷◌, length, get_or, drop, Some, None, Option, sym, refl, ap, ◌∙◌, subst, ap₂, inl, inr, arith, length-drop, drop_of_length-le, drop-cons, drop-drop, pow_mono, pow-add, MatchOption}
 use Rattle.codec.specs.Numbers.{Read, number, refused, below, digits, in_32_bits, read}
 use Rattle.codec.specs.Files.{joined_to, spelled_out, placed}
 use Rattle.codec.specs.declared.Number.{Number}

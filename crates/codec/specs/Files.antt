@@ -1,6 +1,6 @@
 -- Numbers at a place of a row of bytes: what reading answers, and what putting leaves.
 use Rattle.std.specs.Prelude.{ℕ, ◌+◌, ◌-◌, ◌*◌, cond, List, ◌++◌, length, take, drop, Some, None, Option, ◌==◌, nat_le}
-use Rattle.codec.specs.Numbers.{Read, number, refused, read, encode}
+use Rattle.codec.specs.Numbers.{Read, number, refused, read}
 use Rattle.codec.specs.declared.Number.{Number}
 use Rattle.codec.specs.declared.Spelled.{Spelled}
 

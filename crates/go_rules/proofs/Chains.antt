@@ -1,7 +1,7 @@
 -- What growth reaches is what chains of neighbours reach.
-use Rattle.std.proofs.Common.{◌≡◌, ℕ, zero, suc, ◌+◌, ◌-◌, ◌*◌, ◌/◌, ◌%◌, ◌^◌, ◌<◌, ◌≤◌, Bool, true, false, cond, not, ◌&&◌, ◌||◌, eqb, ltb, leb, ◌⊎◌, Decides, sym, refl, ap, ◌∙◌, subst, ap₂, inl, inr, lt_of_le_of_lt, arith}
+use Rattle.std.proofs.Common.{◌≡◌, ℕ, zero, suc, ◌+◌, ◌-◌, ◌*◌, ◌/◌, ◌%◌, ◌^◌, ◌<◌, ◌≤◌, true, ◌&&◌, ◌||◌, ltb, leb, sym, ap, ◌∙◌, subst, inl, inr, lt_of_le_of_lt, arith}
 use lib.Bits.{bit_and, bit_or, and_le_r}
-use Rattle.std.proofs.lemmas.Bool.{cases_eq, cases_lt, true≢false, or_cases, or_left, or_right, and_parts, and_from, ltb-true, leb-true, lt-ltb, le-leb}
+use Rattle.std.proofs.lemmas.Bool.{cases_eq, or_cases, or_left, or_right, and_parts, and_from, ltb-true, leb-true, lt-ltb, le-leb}
 use Rattle.point_sets.specs.Points.{has, set_of}
 use Rattle.go_rules.specs.Groups.{Neighbours, Joined, here, step, touches, around, grown, spread, reach, OnBoard, Chained}
 use Rattle.point_sets.proofs.Sets.{has_and, has_or, has_set, has_inside, set_lt}

@@ -1,11 +1,11 @@
 -- Liberties and legal moves, in the words of the game.
-use Rattle.std.proofs.Common.{◌≡◌, ℕ, zero, suc, ◌+◌, ◌*◌, ◌/◌, ◌%◌, ◌^◌, ◌<◌, ◌≤◌, Bool, true, false, cond, not, ◌&&◌, ◌||◌, eqb, ◌⊎◌, Decides, sym, refl, ap, ◌∙◌, subst, ap₂, inl, inr, lt_of_le_of_lt, arith}
-use lib.Bits.{bit_or, or_lt}
+use Rattle.std.proofs.Common.{◌≡◌, ℕ, ◌*◌, ◌^◌, ◌<◌, ◌≤◌, Bool, true, false, cond, not, ◌||◌, ◌⊎◌, Decides, sym, refl, ap, ◌∙◌, subst, inl, inr, lt_of_le_of_lt}
+use lib.Bits.{or_lt}
 use Rattle.std.proofs.lemmas.Nat.{pow_below, pow_pos}
 use Rattle.std.proofs.lemmas.Bool.Decides.{Decides-or}
-use Rattle.std.proofs.lemmas.Bool.{cases_Bool, cases_lt, true≢false, and_parts, and_from, eqb-true, eq-eqb, ne_eqb}
+use Rattle.std.proofs.lemmas.Bool.{cases_Bool, true≢false, and_parts, and_from, eqb-true, eq-eqb, ne_eqb}
 use Rattle.point_sets.specs.Points.{has, set_of}
-use Rattle.go_rules.specs.Groups.{Neighbours, Joined, here, step, around, reach, OnBoard, Chained}
+use Rattle.go_rules.specs.Groups.{Neighbours, Joined, here, step, around, reach, OnBoard}
 use Rattle.go_rules.specs.Rules.{free_of, HasLiberty, living, Living, all_live, group_of, liberties_of, Group, Liberties, with_stone, leaves_one, takes_last, may_fill, legal, move_set, Takes, LegalMove, Moves}
 use Rattle.point_sets.proofs.Sets.{has_set, has_inside, has_zero, has_and, has_or, has_pow, set_lt, same_set, cases_differ}
 use Rattle.go_rules.proofs.Chains.{around_from, around_to, reach_chained, starts}

@@ -1,9 +1,9 @@
 -- Growth within a set comes to an end, and what it ends with.
-use Rattle.std.proofs.Common.{◌≡◌, ℕ, zero, suc, ◌+◌, ◌-◌, ◌*◌, ◌/◌, ◌%◌, ◌^◌, ◌<◌, ◌≤◌, Bool, true, false, cond, not, ◌&&◌, ◌||◌, eqb, ltb, leb, ◌⊎◌, sym, refl, ap, ◌∙◌, subst, ap₂, inl, inr, arith}
+use Rattle.std.proofs.Common.{◌≡◌, ℕ, zero, suc, ◌+◌, ◌-◌, ◌<◌, ◌≤◌, Bool, true, false, ◌&&◌, ◌||◌, sym, refl, ap, ◌∙◌, subst, inl, inr, arith}
 use lib.Bits.{bit_and, bit_or, and_le_l, and_le_r, and_comm}
-use Rattle.std.proofs.lemmas.Bool.{eqb-true, eqb-false, eq-eqb, ne_eqb, cases_eq}
-use Rattle.point_sets.specs.Points.{has, set_of}
-use Rattle.go_rules.specs.Groups.{touches, around, grown, spread, reach}
+use Rattle.std.proofs.lemmas.Bool.{eq-eqb, ne_eqb, cases_eq}
+use Rattle.point_sets.specs.Points.{has}
+use Rattle.go_rules.specs.Groups.{around, grown, spread, reach}
 use Rattle.point_sets.proofs.Sets.{has_and, has_or, same_bits}
 
 absorbs : (x s y : Bool) → (x && s) ≡ x → (x && (s && (x || y))) ≡ x

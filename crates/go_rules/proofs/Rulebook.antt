@@ -1,20 +1,19 @@
 -- The game is told by the rules.
-use Rattle.std.proofs.Common.{◌≡◌, ℕ, ◌+◌, ◌-◌, ◌*◌, ◌^◌, ◌<◌, ◌≤◌, Bool, true, false, cond, eqb, ◌⊎◌, List, ◌∷◌, length, get_or, is_some, Some, None, Option, sym, refl, ap, ◌∙◌, subst, ap₂, inl, inr, arith}
+use Rattle.std.proofs.Common.{◌≡◌, ℕ, ◌*◌, ◌<◌, ◌≤◌, true, eqb, length, get_or, Some, None, Option, sym, refl, ap, ◌∙◌, subst, inl, inr, arith}
 use Rattle.std.proofs.lemmas.Bool.{cases_lt, cond-true, eq-eqb}
 use Rattle.game.specs.declared.kinds.Side.{Side}
 use Rattle.game.specs.declared.kinds.Side.TheVariants.{Black, White}
-use Rattle.game.specs.Kinds.{number_of, other}
+use Rattle.game.specs.Kinds.{other}
 use Rattle.game.specs.Meaning.{Line, Reachable}
-use Rattle.game.specs.Refusals.{Refused}
 use Rattle.point_sets.specs.Points.{has, list_of}
 use Rattle.point_sets.proofs.Sets.{has_inside}
 use Rattle.point_sets.proofs.Lists.{member, place_of, place_low, list_ordered}
 use Rattle.go_rules.specs.declared.place.Place.{Place}
-use Rattle.go_rules.specs.Rules.{free_of, with_stone, move_set, LegalMove, Moves}
+use Rattle.go_rules.specs.Rules.{free_of, with_stone, LegalMove, Moves}
 use Rattle.go_rules.specs.Groups.{OnBoard}
 use Rattle.go_rules.specs.Play.{by_side, moves_at, after, standing, win_for, place_view, atari_go}
-use Rattle.go_rules.specs.Text.{lines_of, start_of, game_of, text_fault, first_fault, read_fault}
-use Rattle.go_rules.specs.Rulebook.{white_of, own_of, foe_of, Alive, Taken, Lost, ByRules, ToldByRules}
+use Rattle.go_rules.specs.Text.{lines_of, start_of, text_fault, first_fault}
+use Rattle.go_rules.specs.Rulebook.{white_of, own_of, foe_of, Alive, Lost, ByRules, ToldByRules}
 use Rattle.go_rules.proofs.Liberties.{moves_are, alive_or_not, free_on}
 use Rattle.go_rules.proofs.Laws.{Placed, placed_of, reached_good, go_lawful}
 use Rattle.go_rules.proofs.Texts.{in_form, start_good}

@@ -1,12 +1,12 @@
 -- The text of a position.
-use Rattle.std.proofs.Common.{◌≡◌, ℕ, zero, suc, ◌+◌, ◌-◌, ◌*◌, ◌^◌, ◌<◌, ◌≤◌, Bool, true, false, cond, not, ◌&&◌, ◌||◌, eqb, ltb, leb, ◌⊎◌, List, [], ◌∷◌, length, get_or, drop, Some, None, Option, sym, refl, ap, ◌∙◌, subst, ap₂, inl, inr, arith}
+use Rattle.std.proofs.Common.{◌≡◌, ℕ, ◌+◌, ◌*◌, ◌^◌, ◌<◌, ◌≤◌, Bool, true, false, cond, not, ◌&&◌, ◌||◌, ltb, leb, List, [], ◌∷◌, length, get_or, drop, Some, None, Option, sym, refl, ap, ◌∙◌, subst, ap₂, inl, inr, arith}
 use Rattle.game.specs.declared.kinds.Side.{Side}
 use Rattle.std.proofs.lemmas.List.{at_drop_more, drop_all}
-use Rattle.std.proofs.lemmas.Bool.{lt-ltb, le-ltb, cases_lt, and_parts, leb-true, ltb-false, cond-true, cond-false, ltb-true}
-use Rattle.go_rules.specs.Text.{colour, fits_at, first_unfit, lines_of, text_fault, stones_of, side_of, dead_set, dead_point, start_of, first_fault, read_fault, Told}
+use Rattle.std.proofs.lemmas.Bool.{lt-ltb, le-ltb, cases_lt, and_parts, leb-true, ltb-false, cond-true, cond-false}
+use Rattle.go_rules.specs.Text.{fits_at, first_unfit, lines_of, text_fault, stones_of, side_of, dead_set, dead_point, start_of, first_fault, read_fault, Told}
 use Rattle.go_rules.specs.declared.place.Place.{Place}
 use Rattle.go_rules.specs.Play.{place_of, Position}
-use Rattle.point_sets.specs.Points.{has, set_of, list_of}
+use Rattle.point_sets.specs.Points.{has, set_of}
 use Rattle.go_rules.specs.Groups.{OnBoard}
 use Rattle.go_rules.specs.Rules.{free_of, living}
 use lib.Bits.{bit_or, bit_xor}

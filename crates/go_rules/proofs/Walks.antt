@@ -1,20 +1,17 @@
 -- A line as the game remembers it: one move more, one move less, and its prefixes.
-use Rattle.std.proofs.Common.{◌≡◌, ℕ, zero, suc, ◌+◌, ◌-◌, ◌*◌, ◌^◌, ◌<◌, ◌≤◌, min, Bool, true, false, cond, eqb, ◌≢◌, ◌⊎◌, List, [], ◌∷◌, ◌++◌, reverse, length, get_or, take, set, is_some, IsSomeAnd, Some, None, sym, refl, ap, ◌∙◌, subst, ap₂, inl, inr, arith, length-take-le, get_or-set_other, get_or-set_same}
+use Rattle.std.proofs.Common.{◌≡◌, ℕ, zero, suc, ◌+◌, ◌-◌, ◌*◌, ◌^◌, ◌<◌, ◌≤◌, min, ◌≢◌, List, [], ◌∷◌, reverse, length, get_or, take, set, sym, ap, ◌∙◌, subst, inl, inr, arith, length-take-le, get_or-set_other, get_or-set_same}
 use Rattle.std.proofs.lemmas.List.{take_more, take_more_set, take-set-le, reverse-append, length-reverse}
-use Rattle.std.proofs.lemmas.Nat.{pow_pos}
-use Rattle.std.proofs.lemmas.Bool.{cond_both, cases_lt, cases_eq}
-use Rattle.game.specs.declared.kinds.Score.{Score}
+use Rattle.std.proofs.lemmas.Bool.{cases_lt, cases_eq}
 use Rattle.game.specs.Kinds.{number_of}
-use Rattle.game.specs.Meaning.{Meaning, Reachable}
+use Rattle.game.specs.Meaning.{Reachable}
 use Rattle.game.specs.Laws.{Present, Room}
 use Rattle.game.specs.Prefixes.{prefix}
 use Rattle.game.specs.Refusals.{back_answer, shorter}
 use Rattle.game.proofs.Prefixes.{prefix_all, prefix_of}
-use Rattle.point_sets.specs.Points.{has, set_of, list_of}
-use Rattle.point_sets.proofs.Sets.{set_lt}
-use Rattle.point_sets.proofs.Lists.{length_le, length_sub}
+use Rattle.point_sets.specs.Points.{has}
+use Rattle.point_sets.proofs.Lists.{length_le}
 use Rattle.go_rules.specs.declared.place.Place.{Place}
-use Rattle.go_rules.specs.Rules.{free_of, all_live, legal, move_set}
+use Rattle.go_rules.specs.Rules.{free_of, legal}
 use Rattle.go_rules.specs.Play.{empty_ones, moves_at, after, standing, atari_go, Position, SamePlace, place_at, line_of, LegalMoves, Walked}
 use Rattle.go_rules.proofs.Laws.{Placed, placed_of, go_lawful, reached_good, moves_few, word, number_low, one_side}
 use Rattle.go_rules.proofs.Around.{small_board}

@@ -1,5 +1,5 @@
 -- The board of n by n points, numbered by rows from 0.
-use Rattle.std.specs.Prelude.{◌≡◌, ℕ, zero, suc, ◌+◌, ◌-◌, ◌*◌, ◌/◌, ◌%◌, ◌^◌, ◌<◌, ◌≤◌, Bool, true, false, cond, not, ◌&&◌, ◌||◌, ltb, ◌⊎◌, Decides, ◌==◌, bit_or, nat_le, nat_lt}
+use Rattle.std.specs.Prelude.{◌≡◌, ℕ, zero, suc, ◌+◌, ◌-◌, ◌*◌, ◌/◌, ◌%◌, ◌^◌, ◌<◌, Bool, true, false, ◌&&◌, ◌||◌, ltb, ◌⊎◌, Decides, ◌==◌, bit_or, nat_le, nat_lt}
 use Rattle.std.specs.Int.Bits.{bit_and}
 use Rattle.point_sets.specs.Points.{has, set_of}
 

@@ -1,5 +1,5 @@
 -- Atari Go as a game: what a line leads to, and what is told of it.
-use Rattle.std.specs.Prelude.{◌≡◌, ℕ, ◌+◌, ◌*◌, ◌^◌, ◌<◌, ◌≤◌, Bool, true, false, cond, List, [], ◌∷◌, reverse, length, take, Some, None, Option, ◌==◌, slice_index, slice_index_or}
+use Rattle.std.specs.Prelude.{◌≡◌, ℕ, ◌+◌, ◌*◌, ◌^◌, ◌<◌, ◌≤◌, true, cond, List, [], ◌∷◌, reverse, length, take, Some, None, ◌==◌, slice_index, slice_index_or}
 use Rattle.game.specs.declared.kinds.Side.{Side}
 use Rattle.game.specs.declared.kinds.Side.TheVariants.{Black, White}
 use Rattle.game.specs.declared.kinds.Score.{Score}

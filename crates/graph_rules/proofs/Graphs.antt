@@ -1,10 +1,9 @@
 -- The laws of a graph, and the moves of a walk on it.
-use Rattle.std.proofs.Common.{◌≡◌, ℕ, zero, suc, ◌+◌, ◌-◌, ◌^◌, ◌<◌, ◌≤◌, min, Bool, true, false, cond, ◌&&◌, ◌||◌, eqb, ltb, leb, ◌≢◌, List, [], ◌∷◌, ◌++◌, length, get_or, take, drop, set, is_some, Some, None, Option, sym, refl, ap, ◌∙◌, subst, ap₂, ⊎_elim, arith, length-append, length-set, length-take-le, get_or-set_other, get_or-take, get_or-set_same, below_more, ltb-true, eq-eqb, eqb-true, leb-true}
+use Rattle.std.proofs.Common.{◌≡◌, ℕ, zero, suc, ◌+◌, ◌-◌, ◌<◌, ◌≤◌, min, Bool, true, false, cond, ◌&&◌, eqb, leb, ◌≢◌, List, [], ◌∷◌, ◌++◌, length, get_or, take, drop, set, is_some, Some, None, Option, sym, refl, ap, ◌∙◌, subst, ⊎_elim, arith, length-append, length-take-le, get_or-set_other, get_or-take, get_or-set_same, ltb-true, eqb-true, leb-true}
 use borrow.Author.Tests.{eqb-false}
-use Rattle.std.proofs.lemmas.List.{length-take, take-append-le, take_all, at_drop_more, take_more, take_more_set, take-set, take-set-le}
+use Rattle.std.proofs.lemmas.List.{length-take, take-append-le, take_all, at_drop_more, take_more, take_more_set, take-set-le}
 use Rattle.std.proofs.lemmas.Bool.{cases_eq, cases_lt, and_parts, or_cases}
-use Rattle.game.specs.declared.kinds.Score.{Score}
-use Rattle.game.specs.Meaning.{Line, Meaning, Reachable, Same, Bisimilar}
+use Rattle.game.specs.Meaning.{Line, Reachable, Same, Bisimilar}
 use Rattle.game.specs.Laws.{Fit, Lawful, Present}
 use Rattle.game.specs.Prefixes.{prefix}
 use Rattle.game.specs.Refusals.{back_answer, shorter}

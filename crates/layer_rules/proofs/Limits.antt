@@ -1,11 +1,11 @@
 -- The laws of a game under a limit.
-use Rattle.std.proofs.Common.{◌≡◌, ℕ, ◌+◌, ◌-◌, ◌*◌, ◌^◌, ◌<◌, ◌≤◌, Bool, true, false, cond, eqb, ltb, leb, [], ◌∷◌, ◌++◌, length, sym, refl, ap, ◌∙◌, subst, ⊎_elim, arith, length-append, ltb-true, eq-eqb, ne_eqb, le-leb, leb-false}
+use Rattle.std.proofs.Common.{◌≡◌, ℕ, ◌+◌, ◌-◌, ◌*◌, ◌^◌, ◌<◌, ◌≤◌, Bool, true, false, cond, eqb, leb, [], ◌∷◌, length, sym, refl, ap, ◌∙◌, ⊎_elim, arith, length-append, ltb-true, eq-eqb, ne_eqb, le-leb, leb-false}
 use borrow.Author.Tests.{lt-leb}
 use Rattle.std.proofs.lemmas.Bool.{cases_eq, cases_lt, and_parts}
 use Rattle.game.specs.Meaning.{Line, Meaning, Reachable}
 use Rattle.game.specs.Laws.{Lawful, Present, BoundedBy, Bounded, Room}
 use Rattle.layer_rules.specs.Layers.{short_context, limit_layer, limited}
-use Rattle.layer_rules.proofs.Layers.{below, ended_moves, ended_over, open_here, layered_fit, layered_lawful, Agree, Agreeing}
+use Rattle.layer_rules.proofs.Layers.{below, ended_moves, ended_over, open_here, layered_fit, layered_lawful, Agreeing}
 
 -- no reachable line is longer than the limit
 pub limited_short : (n : ℕ) (m : Meaning) (l : Line) → Reachable (limited n m) l → length l ≤ n

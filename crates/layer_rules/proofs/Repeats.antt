@@ -1,5 +1,5 @@
 -- The laws of a game in which repetition is a draw.
-use Rattle.std.proofs.Common.{◌≡◌, ℕ, ◌+◌, ◌^◌, ◌<◌, ◌≤◌, Bool, true, false, not, ◌&&◌, ◌||◌, eqb, [], ◌∷◌, ◌++◌, length, sym, refl, ap, ◌∙◌, subst, ap₂, arith, eq-eqb, ne_eqb, eqb-true}
+use Rattle.std.proofs.Common.{◌≡◌, ℕ, ◌+◌, ◌<◌, ◌≤◌, Bool, true, false, ◌&&◌, ◌||◌, eqb, [], ◌∷◌, ◌++◌, length, sym, refl, ap, ◌∙◌, ap₂, arith, eq-eqb, ne_eqb, eqb-true}
 use borrow.Author.Tests.{eqb-false, not-true}
 use Rattle.std.proofs.lemmas.Bool.{and_parts, or_parts, or_from}
 use Rattle.game.specs.Meaning.{Line, Meaning, Reachable, Bisimilar}
@@ -8,7 +8,7 @@ use Rattle.layer_rules.specs.Layers.{same_position, has_position, has_level, rep
 use Rattle.game.specs.declared.kinds.Words.{Words}
 use Rattle.game.specs.Prefixes.{prefix, words_of}
 use Rattle.game.proofs.Prefixes.{any_none, any_hit, any_miss}
-use Rattle.layer_rules.proofs.Layers.{below, open_below, layered_fit, layered_lawful, layered_bounded, Agree, Agreeing}
+use Rattle.layer_rules.proofs.Layers.{below, open_below, layered_fit, layered_lawful, layered_bounded, Agreeing}
 
 one_fails : (s t : Bool) → (s ≡ true → t ≡ true → ⊥) → (s && t) ≡ false
 one_fails true true h = absurd (h refl refl)

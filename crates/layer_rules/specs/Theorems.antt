@@ -1,10 +1,8 @@
 -- What follows from the definitions alone, for every game below.
-use Rattle.std.specs.Prelude.{◌≡◌, ℕ, ◌≤◌, Bool, true, false, ◌≢◌, [], ◌∷◌, ◌++◌, length, Some, None, ◌==◌}
-use Rattle.game.specs.declared.kinds.Score.{Score}
-use Rattle.game.specs.declared.kinds.Score.TheVariants.{Draw}
+use Rattle.std.specs.Prelude.{◌≡◌, ℕ, ◌≤◌, length, ◌==◌}
 use Rattle.game.specs.Meaning.{Line, Meaning, Reachable}
 use Rattle.game.specs.Laws.{Lawful, BoundedBy}
-use Rattle.layer_rules.specs.Layers.{limit_layer, limited, repeat_layer, repeated}
+use Rattle.layer_rules.specs.Layers.{limit_layer, limited, repeated}
 
 -- under a limit, no reachable line is longer, and exactly those of that length end by it
 abbrev pub LimitExact : Type 0

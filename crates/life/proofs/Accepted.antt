@@ -1,5 +1,5 @@
 -- What check accepts shows a strategy that wins, whatever numbers stand in the place of bytes.
-use Rattle.std.proofs.Common.{◌≡◌, ℕ, zero, suc, ◌+◌, ◌<◌, ◌≤◌, Bool, true, false, cond, ◌||◌, T, eqb, ltb, leb, List, [], ◌∷◌, length, Some, None, Option, sym, refl, ap, subst, arith, eqb→eq}
+use Rattle.std.proofs.Common.{◌≡◌, ℕ, zero, suc, ◌+◌, ◌<◌, ◌≤◌, Bool, true, false, cond, ◌||◌, T, eqb, ltb, leb, List, [], ◌∷◌, length, Some, None, Option, sym, refl, subst, arith, eqb→eq}
 use mathlib.Core.Bool.{beq, false≢true}
 use Rattle.codec.specs.Numbers.{Read, number, refused, read}
 use Rattle.codec.proofs.Numbers.{lt_of}

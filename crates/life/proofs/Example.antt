@@ -1,8 +1,8 @@
 -- The two short lives, computed.
-use Rattle.std.proofs.Common.{◌≡◌, ℕ, zero, suc, ◌<◌, ◌≤◌, true, false, List, [], ◌∷◌, ◌++◌, length, is_some, refl, subst, true≢false, arith}
+use Rattle.std.proofs.Common.{◌≡◌, ℕ, ◌≤◌, true, List, [], ◌∷◌, ◌++◌, length, is_some, refl, subst, true≢false, arith}
 use mathlib.Core.Bool.{false≢true}
 use Rattle.codec.specs.Numbers.{shortest, digits}
-use Rattle.game.specs.Meaning.{Line, Meaning, Reachable, Same, Bisimilar}
+use Rattle.game.specs.Meaning.{Line, Reachable, Bisimilar}
 use Rattle.game.specs.Laws.{Fit, Lawful, BoundedBy}
 use Rattle.game.specs.Value.{value}
 use Rattle.search_method.specs.Tree.{Runs}

@@ -1,6 +1,6 @@
 -- Any two sessions keep the promise.
-use Rattle.std.proofs.Common.{◌≡◌, ℕ, ◌-◌, ◌<◌, ◌≤◌, Bool, true, cond, leb, ◌⊎◌, List, [], ◌∷◌, length, Option, sym, refl, ap, ◌∙◌, subst, inl, inr, arith}
-use Rattle.game.specs.Meaning.{Line, Meaning, Reachable, Bisimilar}
+use Rattle.std.proofs.Common.{◌≡◌, ℕ, ◌-◌, ◌≤◌, Bool, cond, leb, List, length, sym, refl, ap, ◌∙◌, subst, inl, inr, arith}
+use Rattle.game.specs.Meaning.{Line, Meaning, Reachable}
 use Rattle.game.proofs.Value.{bisimilar_values}
 use Rattle.store.specs.Interface.{StoreMeaning}
 use Rattle.search_method.specs.declared.kinds.Answer.{Answer as Found}
@@ -14,8 +14,8 @@ use Rattle.proof_method.specs.Theorems.{Proof}
 use Rattle.proof_method.proofs.Accepting.{accepts_proofs}
 use Rattle.proof_method.proofs.Bisimilar.{bisimilar_checked}
 use Rattle.life.specs.Life.{Memory, Call, Answer, Event, Step, Happened, WasPresent, Session, IsAnswered}
-use Rattle.life.specs.Promise.{Verdict, Accepted, Tells, Wrote, WithinBudget, Covers, TrueOfTree, VerdictsAreTrue, AcceptedProofsAreTrue, EnoughIsNeverUsedUp, VerdictsAgree, ProofsTravel, Promise, Promised}
-use Rattle.life.proofs.Lives.{Right, Kept, Lived, life_kept}
+use Rattle.life.specs.Promise.{Tells, WithinBudget, Covers, TrueOfTree, VerdictsAreTrue, AcceptedProofsAreTrue, EnoughIsNeverUsedUp, VerdictsAgree, ProofsTravel, Promised}
+use Rattle.life.proofs.Lives.{Right, Lived, life_kept}
 
 always_map : {A : Type 0} (P Q : A → Type 0) (t : Tree A) → ((x : A) → P x → Q x) → Always P t → Always Q t
 always_map P Q (done x) f h = f x h

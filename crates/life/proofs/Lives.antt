@@ -1,5 +1,5 @@
 -- Every life keeps its line reachable and its store sound, and each of its answers is right.
-use Rattle.std.proofs.Common.{◌≡◌, ℕ, suc, ◌≤◌, Bool, true, false, cond, List, [], ◌∷◌, length, Some, None, Option, sym, refl, ap, subst, inl, inr, arith}
+use Rattle.std.proofs.Common.{◌≡◌, ℕ, suc, ◌≤◌, Bool, true, false, cond, List, [], ◌∷◌, length, Some, None, Option, sym, refl, subst, inl, inr, arith}
 use Rattle.game.specs.Meaning.{Line, Meaning, Reachable}
 use Rattle.game.specs.Laws.{Lawful, BoundedBy}
 use Rattle.game.specs.Value.{at_least}
@@ -12,7 +12,7 @@ use Rattle.search_method.specs.Tree.{Runs}
 use Rattle.search_method.specs.Truth.{AllSound, Right as RightSearch}
 use Rattle.search_method.proofs.Truth.{verdicts_true}
 use Rattle.proof_method.specs.Check.{Checked, accepted, faulty, check as checking, check_in}
-use Rattle.proof_method.specs.Write.{Written, proof, unwritten, write as writing, unless, write_in}
+use Rattle.proof_method.specs.Write.{Written, proof, unwritten, write as writing, unless}
 use Rattle.proof_method.specs.Theorems.{Proof}
 use Rattle.proof_method.proofs.Strategy.{strategy_true}
 use Rattle.life.specs.Life.{Memory, Call, Answer, Event, Step, Life, Happened}

@@ -1,5 +1,5 @@
 -- What write wrote is a proof.
-use Rattle.std.proofs.Common.{◌≡◌, ℕ, zero, suc, ◌+◌, ◌-◌, ◌/◌, ◌%◌, ◌<◌, ◌≤◌, Bool, true, false, cond, ltb, leb, List, [], ◌∷◌, ◌++◌, length, Some, None, Option, refl, subst, arith}
+use Rattle.std.proofs.Common.{◌≡◌, ℕ, zero, suc, ◌+◌, ◌-◌, ◌/◌, ◌%◌, ◌≤◌, Bool, true, false, cond, ltb, leb, List, [], ◌∷◌, ◌++◌, length, Some, None, Option, refl, subst, arith}
 use mathlib.Core.Bool.{beq}
 use Rattle.codec.specs.Numbers.{shortest, encode, Bytes}
 use Rattle.codec.proofs.Numbers.{lt_of}

@@ -1,8 +1,7 @@
 -- Two short lives over one small game, so that the promise speaks of something; and why a session opens by clearing.
-use Rattle.std.specs.Prelude.{◌≡◌, ℕ, suc, true, false, cond, List, [], ◌∷◌, Some, None, Option, ◌==◌}
+use Rattle.std.specs.Prelude.{◌≡◌, suc, true, false, cond, List, [], ◌∷◌, Some, None, Option, ◌==◌}
 use Rattle.std.proofs.Common.{subst, sym, ap, inr}
 use Rattle.game.specs.declared.kinds.Side.TheVariants.{Black, White}
-use Rattle.game.specs.declared.kinds.Score.{Score}
 use Rattle.game.specs.declared.kinds.Score.TheVariants.{WhiteWins, BlackWins}
 use Rattle.game.specs.Meaning.{Line, Meaning, View}
 use Rattle.game.specs.Laws.{Lawful, BoundedBy}

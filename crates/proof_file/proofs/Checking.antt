@@ -1,17 +1,16 @@
 -- The steps of the code's check, each by the definition.
-use Rattle.std.proofs.Common.{◌≡◌, ℕ, zero, suc, ◌+◌, ◌-◌, ◌<◌, ◌≤◌, Bool, true, false, cond, ◌||◌, eqb, ltb, ◌⊎◌, List, [], ◌∷◌, length, drop, IsErrAnd, Some, None, Ok, Err, Result, sym, refl, ap, ◌∙◌, subst, ap₂, inl, inr, arith, length-drop, drop_of_length-le, drop-cons}
+use Rattle.std.proofs.Common.{◌≡◌, ℕ, suc, ◌-◌, ◌<◌, ◌≤◌, Bool, true, false, cond, ◌||◌, eqb, ltb, ◌⊎◌, List, length, drop, Some, None, Ok, Err, Result, sym, refl, ap, ◌∙◌, ap₂, inl, inr, arith, drop_of_length-le, drop-cons}
 use Rattle.codec.specs.declared.Number.{Number}
 use Rattle.codec.specs.Numbers.{Read, number, refused, read}
-use Rattle.codec.specs.Files.{placed, number_at}
+use Rattle.codec.specs.Files.{number_at}
 use Rattle.codec.proofs.Numbers.{ltb-true, ltb-false, eqb-false}
 use Rattle.codec.proofs.Spelling.{none_read, some_read}
 use Rattle.game.specs.Meaning.{Line, Meaning}
 use Rattle.proof_file.specs.declared.fault.Reason.{Reason}
-use Rattle.proof_file.specs.declared.fault.Reason.TheVariants.{OutOfBudget, NotANumber, NotAClaim, Refused, Denied, BytesLeft}
+use Rattle.proof_file.specs.declared.fault.Reason.TheVariants.{NotANumber, NotAClaim, BytesLeft}
 use Rattle.proof_file.specs.declared.fault.Fault.{Fault as CodeFault}
 use Rattle.proof_method.specs.declared.claim.State.{State}
-use Rattle.proof_method.specs.declared.claim.Claim.{Claim}
-use Rattle.proof_method.specs.Check.{Fault, Walked, through, stopped, fault, walk, Checked, accepted, faulty, finish, claim, by_verdict, by_floor, check}
+use Rattle.proof_method.specs.Check.{through, fault, Checked, accepted, faulty, finish, claim, by_verdict, by_floor, check}
 use Rattle.proof_file.specs.Faults.{reason_number, carried_by, fault_of, walked_by, Walks}
 use Rattle.proof_method.proofs.Accepting.{floor_passes}
 use Rattle.proof_file.proofs.Walking.{fault_at}

@@ -1,7 +1,6 @@
 -- The steps of the code's walk, each by the definition.
-use Rattle.std.proofs.Common.{◌≡◌, ℕ, zero, suc, ◌+◌, ◌-◌, ◌<◌, ◌≤◌, Bool, true, false, T, ltb, leb, List, [], ◌∷◌, length, drop, is_some, Some, None, Ok, Err, Option, Result, sym, refl, ap, ◌∙◌, subst, ap₂, subst₂, true≢false, arith, leb→le, length-drop}
-use mathlib.Core.Path.{subst₃}
-use mathlib.Core.Bool.{beq, false≢true}
+use Rattle.std.proofs.Common.{◌≡◌, ℕ, suc, ◌+◌, ◌-◌, ◌<◌, ◌≤◌, Bool, true, false, ltb, leb, List, ◌∷◌, length, drop, is_some, Some, None, Ok, Err, Option, Result, sym, refl, ap, ◌∙◌, subst, ap₂, subst₂, arith, length-drop}
+use mathlib.Core.Bool.{beq}
 use Rattle.codec.specs.declared.Number.{Number}
 use Rattle.codec.specs.Numbers.{Read, number, refused, read}
 use Rattle.codec.specs.Files.{placed}
@@ -13,16 +12,16 @@ use Rattle.game.specs.declared.refusal.Refusal.TheVariants.{NoSuchMove, LineOver
 use Rattle.game.specs.Kinds.{points}
 use Rattle.game.specs.Meaning.{Line, Meaning}
 use Rattle.game.specs.Value.{black_moves}
-use Rattle.game.specs.Refusals.{refusal_number, first_against, play_answer, line_after, played_line, shorter}
+use Rattle.game.specs.Refusals.{refusal_number, first_against, play_answer, line_after, played_line}
 use Rattle.game.proofs.Plays.{answer_ok}
 use Rattle.game.proofs.Value.{le_of, lt_of, none_is}
 use Rattle.proof_file.specs.declared.fault.Reason.{Reason}
-use Rattle.proof_file.specs.declared.fault.Reason.TheVariants.{OutOfBudget, NotANumber, NotAClaim, Refused, Denied, BytesLeft}
+use Rattle.proof_file.specs.declared.fault.Reason.TheVariants.{OutOfBudget, NotANumber, Refused, Denied}
 use Rattle.proof_file.specs.declared.fault.Fault.{Fault as CodeFault}
 use Rattle.proof_method.specs.declared.claim.State.{State}
 use Rattle.proof_method.specs.declared.claim.Claim.{Claim}
 use Rattle.proof_method.specs.Restored.{Restored}
-use Rattle.proof_method.specs.Check.{Fault, Walked, through, stopped, Step, then, choose, fault, played, own, each, at_line, walk}
+use Rattle.proof_method.specs.Check.{Fault, Walked, through, stopped, then, choose, fault, played, own, each, at_line, walk}
 use Rattle.proof_file.specs.Faults.{reason_number, carried_by, fault_of, walked_by, Within, Walks, below, Descends, GoesThrough}
 
 pub descends_restored : {G : Type 0} (means : G → Meaning) (line : G → Line) (g h : G) → Restored means line g h →

@@ -1,13 +1,13 @@
 -- Check accepts exactly the proofs that the budget covers, and an accepted claim is true.
-use Rattle.std.proofs.Common.{◌≡◌, ℕ, zero, suc, ◌+◌, ◌-◌, ◌^◌, ◌<◌, ◌≤◌, Bool, true, false, cond, ◌||◌, T, eqb, ltb, List, [], ◌∷◌, ◌++◌, length, sym, refl, ap, ◌∙◌, subst, ap₂, append-nil, arith, eqb→eq}
+use Rattle.std.proofs.Common.{◌≡◌, ℕ, zero, suc, ◌-◌, ◌^◌, ◌<◌, ◌≤◌, Bool, true, false, cond, ◌||◌, T, eqb, ltb, List, [], ◌∷◌, ◌++◌, length, sym, refl, ap, ◌∙◌, subst, append-nil, arith, eqb→eq}
 use mathlib.Core.Bool.{false≢true}
 use Rattle.codec.specs.Numbers.{Read, number, refused, read, encode, Bytes}
 use Rattle.codec.proofs.Numbers.{lt_of, read_back, read_only}
 use Rattle.game.specs.Meaning.{Line, Meaning, Reachable}
-use Rattle.proof_method.specs.Strategy.{Strategy, written, plays, bit, file, Wins}
+use Rattle.proof_method.specs.Strategy.{written, bit}
 use Rattle.proof_method.specs.Check.{Walked, through, stopped, fault, walk, Checked, accepted, faulty, finish, claim, by_verdict, by_floor, check}
 use Rattle.proof_method.specs.Theorems.{Proof, AcceptsProofs, ClaimsTrue}
-use Rattle.proof_method.proofs.Walk.{Followed, bytes_after, walk_sound, walk_complete}
+use Rattle.proof_method.proofs.Walk.{bytes_after, walk_sound, walk_complete}
 use Rattle.proof_method.proofs.Strategy.{strategy_true}
 
 -- the tests of the two first numbers

@@ -1,5 +1,5 @@
 -- Bisimilar lines have the same answer of check.
-use Rattle.std.proofs.Common.{◌≡◌, ℕ, zero, suc, ◌+◌, ◌<◌, ◌≤◌, Bool, true, false, cond, ◌||◌, eqb, ltb, List, [], ◌∷◌, ◌++◌, length, Some, None, Option, sym, refl, ap, ◌∙◌, subst, ap₂, append_assoc, arith}
+use Rattle.std.proofs.Common.{◌≡◌, ℕ, zero, suc, ◌+◌, ◌<◌, ◌≤◌, Bool, true, false, cond, ◌||◌, eqb, ltb, List, [], ◌∷◌, length, Some, None, Option, refl, ap, ◌∙◌, ap₂, arith}
 use mathlib.Core.Bool.{beq}
 use Rattle.codec.specs.Numbers.{Read, number, refused, read}
 use Rattle.codec.proofs.Numbers.{lt_of}
@@ -9,7 +9,7 @@ use Rattle.game.specs.Kinds.{is_black}
 use Rattle.game.specs.Meaning.{Line, Meaning, Reachable, Bisimilar}
 use Rattle.game.specs.Value.{black_moves}
 use Rattle.game.proofs.Value.{bisimilar_next}
-use Rattle.proof_method.specs.Check.{Walked, Step, then, choose, fault, played, own, each, at_line, walk, Checked, accepted, faulty, finish, claim, by_verdict, by_floor, check}
+use Rattle.proof_method.specs.Check.{Walked, Step, then, choose, fault, played, own, each, at_line, walk, Checked, faulty, finish, claim, by_verdict, by_floor, check}
 use Rattle.proof_method.specs.Theorems.{BisimilarChecked}
 
 -- a line's part of the walk asks only for its legal moves

@@ -1,5 +1,5 @@
 -- A game that is left and comes back to its line; what a refusal passed on by `?` is; a line with room.
-use Rattle.std.proofs.Common.{◌≡◌, ℕ, ◌<◌, Bool, List, ◌∷◌, length, IsErrAnd, None, Ok, Err, Result, sym, refl, ap, ◌∙◌, arith}
+use Rattle.std.proofs.Common.{◌≡◌, ℕ, ◌<◌, Bool, ◌∷◌, length, IsErrAnd, None, Ok, Err, Result, sym, ap, ◌∙◌, arith}
 use Rattle.game.specs.declared.kinds.Side.{Side}
 use Rattle.game.specs.Meaning.{Line, Meaning}
 use Rattle.game.specs.Laws.{Bounded, Room}

@@ -1,5 +1,5 @@
 -- A strategy that wins shows the value.
-use Rattle.std.proofs.Common.{◌≡◌, ℕ, ◌<◌, ◌≤◌, Bool, true, false, not, leb, ◌∷◌, sym, refl, ap, ◌∙◌}
+use Rattle.std.proofs.Common.{◌≡◌, ℕ, ◌≤◌, Bool, not, leb, ◌∷◌, sym, ap, ◌∙◌}
 use Rattle.game.specs.Meaning.{Line, Meaning, Reachable}
 use Rattle.game.specs.Laws.{Lawful, BoundedBy}
 use Rattle.game.specs.Value.{black_moves, value, at_least}

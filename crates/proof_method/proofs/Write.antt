@@ -1,10 +1,9 @@
 -- What write wrote is the file of a winning strategy, so that check accepts it; and no stray move is ever found.
-use Rattle.std.proofs.Common.{◌≡◌, ℕ, zero, suc, ◌+◌, ◌-◌, ◌<◌, ◌≤◌, Bool, true, false, not, ltb, leb, ◌⊎◌, List, [], ◌∷◌, ◌++◌, length, Some, None, Option, sym, refl, ap, ◌∙◌, subst, inl, inr, append_assoc, append-nil, arith, length-append}
+use Rattle.std.proofs.Common.{◌≡◌, ℕ, zero, suc, ◌+◌, ◌-◌, ◌<◌, ◌≤◌, Bool, true, false, not, leb, ◌⊎◌, List, [], ◌∷◌, ◌++◌, length, Some, None, Option, sym, refl, ap, ◌∙◌, subst, inl, inr, append_assoc, append-nil, arith, length-append}
 use mathlib.Core.Bool.{beq}
 use Rattle.codec.specs.Numbers.{encode}
 use Rattle.codec.proofs.Numbers.{ltb-true}
 use Rattle.game.specs.declared.kinds.Score.{Score}
-use Rattle.game.specs.Kinds.{points}
 use Rattle.game.specs.Meaning.{Line, Meaning, Reachable}
 use Rattle.game.specs.Laws.{Lawful, BoundedBy}
 use Rattle.game.specs.Value.{best, black_moves, value, at_least}
@@ -17,9 +16,7 @@ use Rattle.search_method.specs.Search.{solve}
 use Rattle.search_method.specs.Truth.{Right, RightVerdict, AllSound}
 use Rattle.search_method.proofs.Truth.{verdicts_true}
 use Rattle.proof_method.specs.Strategy.{Strategy, over, move, replies, join, written, total, plays, Wins, bit, file}
-use Rattle.proof_method.specs.Check.{accepted, check}
 use Rattle.proof_method.specs.Write.{Put, put, failed, Part, next, choose, played, number, each, own, by_answer, solved, at_line, walk, first, start, Written, proof, unwritten, end, after_solve, write_by}
-use Rattle.proof_method.specs.Theorems.{Proof}
 use Rattle.proof_method.specs.Writing.{WritesProofs, ClaimFound, NoStray}
 use Rattle.proof_method.proofs.Bools.{beq_same, beq_other, not_not}
 use Rattle.proof_method.proofs.Walk.{first_then}

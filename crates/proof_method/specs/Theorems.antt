@@ -1,5 +1,5 @@
 -- What an accepted proof shows.
-use Rattle.std.specs.Prelude.{◌≡◌, ℕ, ◌<◌, ◌≤◌, Bool, List, length}
+use Rattle.std.specs.Prelude.{◌≡◌, ℕ, ◌≤◌, Bool, List, length}
 use Rattle.codec.specs.Numbers.{Bytes}
 use Rattle.game.specs.Meaning.{Line, Meaning, Reachable, Bisimilar}
 use Rattle.game.specs.Laws.{Lawful, BoundedBy}

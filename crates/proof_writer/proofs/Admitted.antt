@@ -1,10 +1,10 @@
 -- Where neither refusal of the search is due.
-use Rattle.std.proofs.Common.{◌≡◌, ℕ, ◌≤◌, Bool, true, cond, ◌&&◌, ◌||◌, eqb, leb, Some, None, Ok, Err, Option, Result, sym, refl, ap, ◌∙◌, subst, ap₂}
+use Rattle.std.proofs.Common.{◌≡◌, ℕ, ◌≤◌, Bool, cond, ◌&&◌, Some, None, Ok, Err, Option, subst, ap₂}
 use Rattle.game.proofs.Value.{leb-true}
 use Rattle.store.specs.Interface.{StoreMeaning}
 use Rattle.search_method.specs.declared.kinds.Answer.{Answer}
 use Rattle.search_method.specs.declared.kinds.SolveRefusal.{SolveRefusal}
-use Rattle.search_method.specs.Refusals.{is_floor, memory_suffices, refusal_due}
+use Rattle.search_method.specs.Refusals.{refusal_due}
 use Rattle.search_method.specs.Tree.{Tree, Runs}
 use Rattle.search.specs.Solve.{Answers}
 use Rattle.proof_method.proofs.Accepting.{floor_passes}

@@ -1,20 +1,18 @@
 -- The file as a whole: the claim, the walk, and the buffer afterwards.
-use Rattle.std.proofs.Common.{◌≡◌, ℕ, zero, suc, ◌+◌, ◌-◌, ◌<◌, ◌≤◌, Bool, true, false, List, [], ◌∷◌, ◌++◌, length, take, drop, Some, None, Ok, Err, Option, Result, sym, refl, ap, ◌∙◌, subst, subst₂, arith, take-append-drop, length-take-le}
+use Rattle.std.proofs.Common.{◌≡◌, ℕ, ◌-◌, ◌≤◌, Bool, List, [], ◌++◌, length, take, drop, Some, Ok, Err, Result, sym, refl, ap, ◌∙◌, subst, subst₂, arith, take-append-drop, length-take-le}
 use Rattle.codec.specs.Numbers.{encode}
 use Rattle.codec.specs.Files.{end_after, with_bytes}
 use Rattle.game.specs.Meaning.{Line, Meaning}
 use Rattle.store.specs.Interface.{StoreMeaning}
 use Rattle.search_method.specs.declared.kinds.Answer.TheVariants.{Solved, OutOfBudget as Exhausted}
-use Rattle.search_method.specs.Tree.{Tree, done, bind, Runs}
+use Rattle.search_method.specs.Tree.{done, Runs}
 use Rattle.search_method.specs.Search.{solve}
 use Rattle.search_method.proofs.Runs.{runs_bind}
 use Rattle.proof_method.specs.declared.claim.Claim.{Claim}
 use Rattle.proof_method.specs.declared.claim.State.{State}
 use Rattle.proof_method.specs.Restored.{Restored}
-use Rattle.proof_method.specs.Write.{Part, Put, put, failed, number, start, end, Written, proof, unwritten, after_solve, write, buffer}
+use Rattle.proof_method.specs.Write.{Part, number, start, end, proof, unwritten, after_solve, write}
 use Rattle.proof_writer.specs.declared.refusal.WriteRefusal.{WriteRefusal}
-use Rattle.proof_writer.specs.declared.refusal.WriteRefusal.TheVariants.{OutOfBudget}
-use Rattle.proof_writer.specs.declared.write.Written.{Written as CodeWritten}
 use Rattle.proof_writer.specs.Writing.{write_number, put_by, Does, Starts}
 use Rattle.proof_writer.proofs.Steps.{number_on}
 

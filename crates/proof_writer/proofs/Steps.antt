@@ -1,28 +1,25 @@
 -- The steps of write's walk, each a run of the definition.
-use Rattle.std.proofs.Common.{◌≡◌, ℕ, zero, suc, ◌+◌, ◌-◌, ◌<◌, ◌≤◌, Bool, true, false, ltb, leb, List, [], ◌∷◌, ◌++◌, length, take, drop, Some, None, Ok, Err, Option, Result, sym, refl, ap, ◌∙◌, subst, subst₂, append_assoc, arith, length-append, length-take-le, drop-drop, take_at, drop_at}
-use mathlib.Core.Bool.{beq}
+use Rattle.std.proofs.Common.{◌≡◌, ℕ, suc, ◌+◌, ◌-◌, ◌<◌, ◌≤◌, Bool, true, false, List, ◌∷◌, ◌++◌, length, take, drop, Some, None, Ok, Err, Option, Result, sym, refl, ap, ◌∙◌, subst, subst₂, append_assoc, arith, length-append, length-take-le, drop-drop, take_at, drop_at}
 use Rattle.codec.specs.Numbers.{encode}
 use Rattle.codec.specs.Files.{end_after, with_bytes}
 use Rattle.codec.proofs.Numbers.{ltb-true, ltb-false}
 use Rattle.codec.proofs.Putting.{end_none, end_some, fits_bytes}
 use Rattle.game.specs.declared.kinds.Score.{Score}
 use Rattle.game.specs.Meaning.{Line, Meaning}
-use Rattle.game.specs.Value.{black_moves}
 use Rattle.game.proofs.Value.{leb-true, leb-false}
 use Rattle.store.specs.Interface.{StoreMeaning}
-use Rattle.search_method.specs.declared.kinds.Answer.{Answer}
 use Rattle.search_method.specs.declared.kinds.Answer.TheVariants.{Solved, OutOfBudget as Exhausted}
-use Rattle.search_method.specs.Tree.{Tree, done, bind, Runs}
+use Rattle.search_method.specs.Tree.{done, Runs}
 use Rattle.search_method.specs.Search.{solve}
 use Rattle.search_method.proofs.Runs.{runs_bind}
 use Rattle.proof_method.specs.declared.claim.Claim.{Claim}
 use Rattle.proof_method.specs.declared.claim.State.{State}
 use Rattle.proof_method.specs.Claims.{claims}
 use Rattle.proof_method.specs.Restored.{Restored}
-use Rattle.proof_method.specs.Write.{Put, put, failed, Part, next, choose, played, number, each, own, by_answer, at_line, walk}
+use Rattle.proof_method.specs.Write.{Put, put, failed, Part, next, choose, played, number, each, by_answer, at_line, walk}
 use Rattle.proof_writer.specs.declared.refusal.WriteRefusal.{WriteRefusal}
-use Rattle.proof_writer.specs.declared.refusal.WriteRefusal.TheVariants.{Floor, Memory, OutOfBudget, NoRoom}
-use Rattle.proof_writer.specs.Writing.{write_number, put_by, Framed, Does, on, own_part, solved_part, mine_part, line_part, Plays, Owns, Solves, PlaysAll, Walks}
+use Rattle.proof_writer.specs.declared.refusal.WriteRefusal.TheVariants.{OutOfBudget, NoRoom}
+use Rattle.proof_writer.specs.Writing.{put_by, Framed, Does, on, mine_part, line_part, Plays, Owns, Solves, PlaysAll, Walks}
 
 is_suc : (n : ℕ) → 0 < n → n ≡ suc (n - 1)
 is_suc n h = omega arith

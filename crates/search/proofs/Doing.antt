@@ -1,13 +1,12 @@
 -- Parts of the search, one after another, and the plays and moves between them.
-use Rattle.std.proofs.Common.{◌≡◌, ℕ, zero, suc, ◌-◌, ◌<◌, ◌≤◌, cond, eqb, ◌∷◌, length, is_some, Some, None, Option, sym, refl, ap, ◌∙◌, subst, arith}
+use Rattle.std.proofs.Common.{◌≡◌, ℕ, zero, suc, ◌-◌, ◌<◌, cond, eqb, ◌∷◌, is_some, Some, None, Option, refl, ap, ◌∙◌, arith}
 use Rattle.std.proofs.lemmas.Bool.Decides.{nat_tests}
 use Rattle.game.specs.Meaning.{Line, Meaning}
-use Rattle.game.specs.Laws.{BoundedBy, Bounded, Room}
+use Rattle.game.specs.Laws.{Bounded, Room}
 use Rattle.game.specs.Refusals.{shorter}
 use Rattle.game.proofs.Bounds.{room_under}
 use Rattle.store.specs.Interface.{StoreMeaning}
-use Rattle.search_method.specs.Tree.{Tree, Runs}
-use Rattle.search_method.specs.Search.{Out, exhausted, got, Part, next, ◌>>=◌, played, height_of, moves_left}
+use Rattle.search_method.specs.Search.{exhausted, got, Part, next, ◌>>=◌, played, height_of, moves_left}
 use Rattle.search_method.proofs.Runs.{runs_bind}
 use Rattle.search.specs.Does.{came, Does, Kept}
 

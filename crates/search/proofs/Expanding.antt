@@ -1,5 +1,5 @@
 -- The expansion of a line: its turns so far, and how they end.
-use Rattle.std.proofs.Common.{◌≡◌, ℕ, zero, suc, ◌+◌, ◌-◌, ◌*◌, ◌<◌, ◌≤◌, Bool, true, false, cond, eqb, List, [], ◌∷◌, map, length, set, Some, None, Option, sym, refl, ap, ◌∙◌, subst, subst₂, arith}
+use Rattle.std.proofs.Common.{◌≡◌, ℕ, zero, suc, ◌-◌, ◌<◌, ◌≤◌, Bool, true, false, cond, eqb, List, [], ◌∷◌, set, Some, None, Option, sym, refl, ap, ◌∙◌, subst, subst₂, arith}
 use mathlib.Core.Path.{subst₃}
 use Rattle.game.specs.declared.kinds.Score.{Score}
 use Rattle.game.specs.Meaning.{Line, Meaning}
@@ -12,7 +12,7 @@ use Rattle.search_method.specs.declared.kinds.Pair.{Pair}
 use Rattle.search_method.specs.declared.kinds.Worked.{Worked}
 use Rattle.search_method.specs.declared.kinds.Answer.{Answer}
 use Rattle.search_method.specs.Tree.{Tree, done, bind, Runs}
-use Rattle.search_method.specs.Pairs.{seen, pns, dns, first, best_move, pair_of, choice_of, limits_of, reached}
+use Rattle.search_method.specs.Pairs.{pns, dns, first, best_move, pair_of, choice_of, limits_of, reached}
 use Rattle.search_method.specs.Search.{Out, exhausted, got, Part, ◌>>=◌, either, played, entry, line_pair, outcome, evaluate, leave, resume, turns, expand, answer, no_limits, moves_left, solve_by, solve}
 use Rattle.search_method.proofs.Runs.{runs_bind}
 use Rattle.search.specs.declared.memory.LineRecord.{LineRecord}

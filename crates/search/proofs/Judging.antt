@@ -1,5 +1,5 @@
 -- The initial evaluation: what an entry is worth, and the moves that have been judged.
-use Rattle.std.proofs.Common.{◌≡◌, ℕ, zero, suc, ◌+◌, ◌-◌, ◌<◌, ◌≤◌, Bool, true, false, cond, ◌&&◌, eqb, List, [], ◌∷◌, ◌++◌, length, take, Some, None, Option, sym, refl, ap, ◌∙◌, subst, subst₂, append_assoc, append-nil, arith}
+use Rattle.std.proofs.Common.{◌≡◌, ℕ, suc, ◌+◌, ◌-◌, ◌<◌, ◌≤◌, Bool, true, false, cond, ◌&&◌, eqb, List, [], ◌∷◌, ◌++◌, Some, None, Option, sym, refl, ap, ◌∙◌, subst, subst₂, append_assoc, append-nil, arith}
 use native.Mathlib.Nat.{sub-zero}
 use mathlib.Core.Path.{subst₃}
 use Rattle.game.specs.declared.kinds.Score.{Score}
@@ -10,7 +10,7 @@ use Rattle.store.specs.declared.entry.Finding.{Finding}
 use Rattle.store.specs.declared.entry.Finding.TheVariants.{Verdict, Open}
 use Rattle.search_method.specs.declared.kinds.Pair.{Pair}
 use Rattle.search_method.specs.Tree.{Tree, Runs}
-use Rattle.search_method.specs.Pairs.{settled, unknown, in_range}
+use Rattle.search_method.specs.Pairs.{settled}
 use Rattle.search_method.specs.Search.{Out, Part, give, ◌>>=◌, either, played, each, key, judged, simulate, confirm, appraise_by, appraise, judge, evaluate, moves_left}
 use Rattle.search.specs.declared.evaluation.Weight.{Weight}
 use Rattle.search.specs.declared.evaluation.Weight.TheVariants.{Given, Check}

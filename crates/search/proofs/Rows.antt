@@ -1,9 +1,8 @@
 -- The numbers of a line's moves, read from the last to the first.
 use Rattle.std.proofs.Common.{◌≡◌, ℕ, zero, suc, ◌+◌, ◌-◌, ◌<◌, ◌≤◌, min, Bool, true, false, cond, ◌||◌, eqb, List, [], ◌∷◌, map, length, get_or, take, drop, sym, refl, ap, ◌∙◌, ap₂, arith, drop-cons}
-use lib.Seq.{drop-length}
 use Rattle.std.proofs.lemmas.Bool.Decides.{nat_tests}
 use Rattle.search_method.specs.declared.kinds.Pair.{Pair}
-use Rattle.search_method.specs.Pairs.{M, INF, unknown, seen, least, plain, endless, sum, first, others, pns, dns, pair_of, choice_of, limits_of, reached}
+use Rattle.search_method.specs.Pairs.{M, INF, unknown, seen, least, plain, endless, sum, first, others, pair_of, choice_of, limits_of, reached}
 use Rattle.search.specs.Numbers.{mine, theirs, plus, own_limit, other_limit, Small, AllSmall}
 
 abbrev pub zeros : Pair

@@ -1,5 +1,5 @@
 -- Simulation: the moves that are tried.
-use Rattle.std.proofs.Common.{◌≡◌, ℕ, zero, suc, ◌+◌, ◌-◌, ◌<◌, ◌≤◌, Bool, true, false, cond, ◌&&◌, eqb, ltb, List, [], ◌∷◌, length, Some, None, Option, sym, refl, ap, ◌∙◌, subst, subst₂, arith}
+use Rattle.std.proofs.Common.{◌≡◌, ℕ, zero, suc, ◌+◌, ◌-◌, ◌<◌, ◌≤◌, Bool, true, false, cond, ◌&&◌, eqb, ltb, ◌∷◌, Some, None, Option, refl, ap, subst, subst₂, arith}
 use native.Mathlib.Nat.{sub-zero}
 use mathlib.Core.Path.{subst₃}
 use mathlib.Core.Bool.{beq}
@@ -10,8 +10,7 @@ use Rattle.store.specs.Interface.{StoreMeaning}
 use Rattle.store.specs.declared.entry.Entry.{Entry}
 use Rattle.store.specs.declared.entry.Finding.{Finding}
 use Rattle.store.specs.declared.entry.Finding.TheVariants.{Verdict, Open}
-use Rattle.search_method.specs.Tree.{Tree, Runs}
-use Rattle.search_method.specs.Search.{Out, Part, give, ◌>>=◌, either, played, every, decide, settles, claim_by, by_moves, by_entry, holds_at, simulate, moves_left}
+use Rattle.search_method.specs.Search.{Part, give, either, played, every, decide, settles, claim_by, by_entry, holds_at, simulate, moves_left}
 use Rattle.search.specs.declared.simulation.Step.{Step}
 use Rattle.search.specs.declared.simulation.Step.TheVariants.{Stop, One, All}
 use Rattle.search.specs.Does.{Does, Kept}

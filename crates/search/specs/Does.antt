@@ -1,6 +1,6 @@
 -- What the code does of a part of the search: the plays left before and after, the store before and after, and a game
 -- that is left at its line.
-use Rattle.std.specs.Prelude.{◌≡◌, ℕ, ◌≤◌, List, Some, None, Option}
+use Rattle.std.specs.Prelude.{◌≡◌, ℕ, List, Some, None, Option}
 use Rattle.game.specs.Meaning.{Line, Meaning}
 use Rattle.store.specs.Interface.{StoreMeaning}
 use Rattle.search_method.specs.Tree.{Runs}

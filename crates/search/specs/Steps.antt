@@ -1,5 +1,5 @@
 -- What a simulation does next at a line, and what an initial evaluation makes of an entry.
-use Rattle.std.specs.Prelude.{ℕ, ◌-◌, Bool, true, false, cond, ◌&&◌, ◌∷◌, Some, None, Option, nat_lt}
+use Rattle.std.specs.Prelude.{ℕ, ◌-◌, Bool, false, cond, ◌&&◌, ◌∷◌, Some, None, Option, nat_lt}
 use Rattle.std.specs.Bool.{beq}
 use Rattle.game.specs.Meaning.{Line, Meaning}
 use Rattle.store.specs.declared.entry.Entry.{Entry}

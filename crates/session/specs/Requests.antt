@@ -1,5 +1,5 @@
 -- What requests and replies say of calls and answers.
-use Rattle.std.specs.Prelude.{◌≡◌, ℕ, List, [], ◌∷◌, ◌++◌, length, take, Ok, Err}
+use Rattle.std.specs.Prelude.{◌≡◌, ℕ, List, [], ◌∷◌, ◌++◌, take, Ok, Err}
 use Rattle.game.specs.Meaning.{Line}
 use Rattle.game.specs.Refusals.{refusal_number}
 use Rattle.search_method.specs.Refusals.{refusal_number as solve_number}

@@ -1,8 +1,7 @@
 -- Rotating a word of 64 bits.
-use Rattle.std.proofs.Common.{◌≡◌, ℕ, ◌+◌, ◌-◌, ◌*◌, ◌/◌, ◌%◌, ◌^◌, ◌<◌, ◌≤◌, sym, ap, ◌∙◌, subst, ap₂, mul_assoc, add-mul, arith}
+use Rattle.std.proofs.Common.{◌≡◌, ℕ, ◌+◌, ◌-◌, ◌*◌, ◌%◌, ◌^◌, ◌<◌, sym, ap, ◌∙◌, subst, ap₂, mul_assoc, add-mul, arith}
 use lib.Bits.{bit_or}
 use Rattle.std.proofs.lemmas.Nat.{pow-add, or_shifted, div-mul-add, mod-mul-add, shl_below}
-use Rattle.store.specs.Slots.{rotated}
 use Rattle.store.specs.Theorems.{Rotates}
 
 pub rotates : Rotates

@@ -3,7 +3,7 @@ use Rattle.std.specs.Prelude.{◌≡◌, Some, None}
 use Rattle.std.proofs.Common.{ap, sym, subst, ◌∙◌}
 use Rattle.store.specs.declared.null.Null.{Null}
 use Rattle.store.specs.declared.table.Table.{Table}
-use Rattle.store.specs.Interface.{Entry, Key, StoreMeaning}
+use Rattle.store.specs.Interface.{StoreMeaning}
 use Rattle.store.specs.Slots.{Row, shown_in, recorded_in, emptied}
 use Rattle.store.specs.Shown.{none_is_no_entry, shown_is_held, recorded_or_held, empty_shows}
 

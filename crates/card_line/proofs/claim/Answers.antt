@@ -1,4 +1,4 @@
-use Rattle.std.proofs.Common.{◌≡◌, length, codes, ap, subst, arith, rules}
+use Rattle.std.proofs.Common.{length, codes, ap, subst, arith, rules}
 use Rattle.card_line.specs.Lines.{entry, verdict_word}
 use Rattle.card_line.specs.Written.{Appends}
 use Rattle.card_line.proofs.Appended.{claim_line, room8, room32, word_room}

@@ -1,4 +1,4 @@
-use Rattle.std.proofs.Common.{◌≡◌, ◌-◌, ◌*◌, ◌^◌, ◌<◌, ◌≤◌, get_or, sym, refl, ◌∙◌, arith, pow_pos}
+use Rattle.std.proofs.Common.{◌-◌, ◌*◌, get_or, arith, pow_pos}
 use Rattle.codec.proofs.Spelling.{wider, spelled_end, spelled_last, above_none, above_joined, joined_small, at_most_35}
 use Rattle.codec.proofs.+digits.Goals as goal
 

@@ -1,4 +1,4 @@
-use Rattle.std.proofs.Common.{◌≡◌, true, false, sym, ap, ◌∙◌, subst}
+use Rattle.std.proofs.Common.{◌≡◌, sym, ap, ◌∙◌}
 use lib.Bits.{bit_and}
 use Rattle.point_sets.specs.Points.{has}
 use Rattle.go_rules.specs.Groups.{around}

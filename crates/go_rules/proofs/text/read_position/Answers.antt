@@ -1,4 +1,4 @@
-use Rattle.std.proofs.Common.{◌≡◌, ℕ, ◌*◌, ◌^◌, ◌<◌, None, sym, refl, ap, ◌∙◌, subst, arith}
+use Rattle.std.proofs.Common.{◌≡◌, ℕ, None, sym, ◌∙◌, subst, arith}
 use Rattle.go_rules.specs.Groups.{OnBoard}
 use Rattle.go_rules.specs.Text.{lines_of}
 use Rattle.go_rules.proofs.Texts.{in_form, form_at, stones_word, form_answer, told, start_good}

@@ -1,4 +1,4 @@
-use Rattle.std.proofs.Common.{◌≡◌, suc, ◌+◌, ◌≤◌, length, sym, refl, ap, ◌∙◌, add-one, arith, rules}
+use Rattle.std.proofs.Common.{◌≡◌, ◌≤◌, length, sym, ap, add-one, arith}
 use Rattle.std.proofs.lemmas.List.{get_or_past}
 use Rattle.point_sets.specs.Points.{has, list_of}
 use Rattle.point_sets.proofs.Lists.{nth_here, length_in, length_out}

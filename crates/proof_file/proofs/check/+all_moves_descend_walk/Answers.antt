@@ -1,11 +1,10 @@
-use Rattle.std.proofs.Common.{◌≡◌, ℕ, suc, ◌+◌, ◌-◌, ◌<◌, ◌≤◌, Bool, true, false, Ok, Err, sym, refl, ap, ◌∙◌, subst, arith}
+use Rattle.std.proofs.Common.{◌≡◌, ℕ, suc, ◌+◌, ◌-◌, ◌<◌, true, false, Ok, Err, sym, refl, ◌∙◌, arith}
 use mathlib.Core.Path.{subst₃}
-use mathlib.Core.Bool.{beq}
 use Rattle.game.specs.Meaning.{Line, Meaning}
 use Rattle.game.proofs.Plays.{legal_play}
 use Rattle.proof_method.proofs.Restoring.{restored_then, visited, residual_is, has_room, on_turn}
 use Rattle.proof_file.specs.Faults.{Walks}
-use Rattle.proof_file.proofs.Walking.{descends_restored, stays, more_within, out_of_budget, refused_move, descended, through_none, through_more, through_fails, through_all, over_yes, over_no, other_side, own_none, own_some}
+use Rattle.proof_file.proofs.Walking.{descends_restored, stays, more_within, out_of_budget, refused_move, descended, through_more, through_fails, over_yes, over_no, other_side, own_none, own_some}
 use Rattle.proof_file.proofs.check.+all_moves_descend_walk.Goals as goal
 use Rattle.proof_file.proofs.check.+all_moves_descend_walk.Goals.{descend-else-state-eq0-via-then-state-eq0+else-k-moves, descend-else-state-eq0-via-else-state-eq0}
 

@@ -1,10 +1,10 @@
-use Rattle.std.proofs.Common.{◌≡◌, ℕ, ◌+◌, ◌-◌, ◌<◌, ◌≤◌, true, Some, None, Ok, Err, sym, refl, ap, ◌∙◌, subst₂, arith}
+use Rattle.std.proofs.Common.{◌-◌, true, None, Ok, Err, refl, ◌∙◌, subst₂, arith}
 use Rattle.game.specs.Meaning.{Line, Meaning}
 use Rattle.game.proofs.Plays.{legal_play}
 use Rattle.game.proofs.Bounds.{play_goes}
 use Rattle.proof_method.proofs.Restoring.{restored_then, visited, residual_is, on_turn}
 use Rattle.proof_writer.specs.Writing.{Walks}
-use Rattle.proof_writer.proofs.Steps.{no_plays, plays_on, own_on, own_full, own_off, put_inside, framed_put, begun_none, begun_more, begun_fails, begun_all, begun_framed, solved_on, unsolved, over_line, known_side, own_side, other_side, plays_restored, owns_restored, less_framed}
+use Rattle.proof_writer.proofs.Steps.{plays_on, own_on, framed_put, begun_more, begun_fails, solved_on, unsolved, own_side, plays_restored, owns_restored, less_framed}
 use Rattle.proof_writer.proofs.walk.+all_moves_own_own_turn_step_walk.Goals as goal
 
 pub step-returns : goal.step-returns

@@ -1,8 +1,5 @@
-use Rattle.std.proofs.Common.{◌≡◌, ℕ, ◌-◌, ◌≤◌, Ok, Err, Result, sym, refl, ◌∙◌, subst, arith}
-use Rattle.proof_method.specs.declared.claim.State.{State}
+use Rattle.std.proofs.Common.{◌-◌, arith}
 use Rattle.proof_method.proofs.Restoring.{restored_then, residual_is}
-use Rattle.proof_writer.specs.declared.refusal.WriteRefusal.{WriteRefusal}
-use Rattle.proof_writer.specs.Writing.{Framed}
 use Rattle.proof_writer.proofs.Files.{unsolved_file, filed, unfiled, buffer_is, starts_restored}
 use Rattle.proof_writer.proofs.write.put_proof.Goals as goal
 

@@ -1,7 +1,7 @@
-use Rattle.std.proofs.Common.{◌+◌, ◌<◌, ◌≤◌, length, take, set, Some, None, arith, take_all}
+use Rattle.std.proofs.Common.{◌+◌, take, set, Some, None, arith, take_all}
 use Rattle.std.proofs.lemmas.List.{take_more_set}
 use Rattle.search.proofs.Doing.{kept_trans}
-use Rattle.search.proofs.Judging.{judged_kept, judging_none, judging_more, judging_exhausted, judging_all}
+use Rattle.search.proofs.Judging.{judged_kept, judging_more, judging_exhausted, judging_all}
 use Rattle.search.proofs.evaluation.evaluate.Goals as goal
 
 pub returns-in_err-pair : goal.returns-in_err-pair

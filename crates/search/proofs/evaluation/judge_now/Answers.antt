@@ -1,4 +1,4 @@
-use Rattle.std.proofs.Common.{◌≡◌, Some, sym, refl, ap, ◌∙◌, arith}
+use Rattle.std.proofs.Common.{Some, sym, refl, ap, ◌∙◌, arith}
 use Rattle.search.specs.declared.evaluation.Weight.TheVariants.{Given, Check}
 use Rattle.search.specs.Steps.{weigh}
 use Rattle.search.proofs.Doing.{kept_same}

@@ -1,9 +1,9 @@
-use Rattle.std.proofs.Common.{◌≡◌, ◌<◌, ◌≤◌, length, Some, None, sym, refl, ap, ◌∙◌, arith, rules}
+use Rattle.std.proofs.Common.{◌≡◌, Some, None, sym, ap, ◌∙◌, arith, rules}
 use Rattle.store.specs.declared.entry.Finding.TheVariants.{Open}
 use Rattle.search_method.specs.Pairs.{reached}
 use Rattle.search_method.specs.Search.{height_of, moves_left}
 use Rattle.search.specs.Numbers.{AllSmall}
-use Rattle.search.proofs.Doing.{kept_same, kept_trans, visited}
+use Rattle.search.proofs.Doing.{kept_same, kept_trans}
 use Rattle.search.proofs.Smalls.{evaluate_small, all_small_set}
 use Rattle.search.proofs.Expanding.{moved_kept, turning_more, turning_exhausted, turning_left, expand_ends, expand_exhausted, expand_settled, told_kept}
 use Rattle.search.proofs.expansion.+expand_expand_line_expand_move_take_turns.Goals as goal

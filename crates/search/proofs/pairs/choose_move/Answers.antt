@@ -1,4 +1,4 @@
-use Rattle.std.proofs.Common.{◌≡◌, ◌<◌, length, sym, ap, ◌∙◌, subst, subst₂}
+use Rattle.std.proofs.Common.{◌≡◌, ◌<◌, sym, ap, ◌∙◌, subst₂}
 use Rattle.search_method.specs.Pairs.{first, choice_of}
 use Rattle.search.specs.Numbers.{mine}
 use Rattle.search.proofs.Rows.{first_least, below_limits, mine_length}

@@ -1,4 +1,4 @@
-use Rattle.std.proofs.Common.{◌≡◌, sym, subst}
+use Rattle.std.proofs.Common.{sym, subst}
 use Rattle.search.specs.Numbers.{Small}
 use Rattle.search.proofs.Rows.{limits_fit, limits_are, seen_capped}
 use Rattle.search.proofs.pairs.limits_of.Goals as goal

@@ -1,8 +1,8 @@
-use Rattle.std.proofs.Common.{◌≡◌, ◌<◌, ◌≤◌, true, false, Some, None, sym, refl, ◌∙◌, arith}
+use Rattle.std.proofs.Common.{Some, None, sym, refl, ◌∙◌, arith}
 use Rattle.search.specs.declared.simulation.Step.TheVariants.{Stop, One, All}
 use Rattle.search.specs.Steps.{step_of}
 use Rattle.search.proofs.Doing.{kept_same, kept_trans, visited, moves_left_lem}
-use Rattle.search.proofs.Trying.{simulated, tried, tried_kept, trying_none, trying_more, trying_fails, trying_exhausted, trying_all}
+use Rattle.search.proofs.Trying.{simulated, tried, tried_kept, trying_more, trying_fails, trying_exhausted, trying_all}
 use Rattle.search.proofs.simulation.+holds_now_simulate_try_all_try_move.Goals as goal
 
 pub try_all-returns-in_err-held : goal.try_all-returns-in_err-held

@@ -1,4 +1,4 @@
-use Rattle.std.proofs.Common.{◌≡◌, sym, ◌∙◌}
+use Rattle.std.proofs.Common.{sym}
 use Rattle.search.proofs.Expanding.{solve_expands}
 use Rattle.search.proofs.solve.run.Goals as goal
 

@@ -1,5 +1,3 @@
-use Rattle.std.proofs.Common.{◌≡◌, refl, ap, rules}
-use Rattle.search_method.specs.Refusals.{refusal_due}
 use Rattle.search_method.specs.Search.{solve}
 use Rattle.search_method.proofs.Bound.{budget_enough}
 use Rattle.search_method.proofs.Truth.{verdicts_true}

@@ -1,4 +1,4 @@
-use Rattle.std.proofs.Common.{◌≡◌, ℕ, ◌<◌, ◌≤◌, min, [], length, take, sym, refl, ap, ◌∙◌, subst, ap₂, subst₂, arith}
+use Rattle.std.proofs.Common.{◌≡◌, ℕ, ◌<◌, min, [], length, take, sym, refl, ap, ◌∙◌, subst, ap₂, subst₂, arith}
 use Rattle.game.specs.Meaning.{Reachable}
 use Rattle.life.specs.Life.{Life}
 use Rattle.session.specs.Requests.{Tells, desk, memory}

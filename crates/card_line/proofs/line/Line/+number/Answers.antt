@@ -1,4 +1,4 @@
-use Rattle.std.proofs.Common.{◌^◌, ◌<◌, length, sym, ap, subst, arith, rules}
+use Rattle.std.proofs.Common.{◌^◌, ◌<◌, sym, subst, arith, rules}
 use Rattle.std.proofs.lemmas.Fmt.{decimal_digit, decimal_nonempty, decimal_step}
 use Rattle.card_line.specs.Written.{Appends}
 use Rattle.card_line.proofs.Appended.{appends_then, decimal_longer}
