@@ -53,8 +53,8 @@ def measured(program, pattern):
 class Bench:
     def __init__(self, baseline, programs):
         self.baseline = baseline
-        self.lab = os.path.join(programs, 'search_lab')
-        self.cards = os.path.join(programs, 'cards')
+        self.lab = os.path.join(programs, 'search_lab', 'out', 'search_lab')
+        self.cards = os.path.join(programs, 'cards', 'out', 'cards')
 
     def plain(self, position, limit, floor, slots, card):
         words = [self.baseline, position, floor, str(slots)]

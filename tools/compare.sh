@@ -1,11 +1,11 @@
 #!/bin/sh
 # compare.sh SEED N [--graphs] [--proofs]: N random cases, answered by the reference and by the verified program search_lab.
-# The program is target/bin/search_lab, which `rt check search_lab` builds. Exits with 0 where all answers agree.
+# The program is crates/search_lab/out/search_lab, which `rt run` in crates/search_lab builds. Exits with 0 where all answers agree.
 set -eu
 [ $# -ge 2 ] || { echo "usage: tools/compare.sh SEED N [--graphs] [--proofs]" >&2; exit 2; }
 cd "$(dirname "$0")/.."
-program=${SEARCH_LAB:-target/bin/search_lab}
-[ -x "$program" ] || { echo "no $program: run rt check search_lab first" >&2; exit 2; }
+program=${SEARCH_LAB:-crates/search_lab/out/search_lab}
+[ -x "$program" ] || { echo "no $program: run rt run in crates/search_lab first" >&2; exit 2; }
 room=$(mktemp -d)
 trap 'rm -rf "$room"' EXIT
 python3 tools/make_cases.py "$@" >"$room/cases"

@@ -18,7 +18,8 @@ IMPORT = re.compile(r"^\s*(?:pub )?use (?!Rattle\.(?!std\b))\S+\.\{([^}]*)\}")
 ODD = re.compile(r"-|[a-z0-9][A-Z]")
 
 
-# names that would fall together with another, and what they are called instead: a lemma beside its function gets `_lem`
+# names that would fall together with another or with a word of the library, and what they are called instead: a lemma beside its
+# function gets `_lem`
 APART = {
     'end-good': 'end_good_lem',
     'node-good': 'node_good_lem',
@@ -28,13 +29,14 @@ APART = {
     'moves-left': 'moves_left_lem',
     'refused-by': 'refused_by_lem',
     'sameKey': 'same_keys',
+    'Is-none': 'IsAbsent',
 }
 
 # names that no declaration of this form shows: those after `as`, and variables
 OTHERS = """
 Right-search at-is b-is back-goes back-same before-is bufferAfter checkOf enough-plays g-on is-e is-k is-next is-pair judged-there
 less-deep low-y mine-is n-is next-is none-q on-b on-f on-foe on-own on-s on-w open-yet own-after q-free q-on q-still s-is same-e
-same-game same-k same-pair same-x solveNumber solveOf t-is test-true theirs-is tried-held true-here w-is writeOf x-is
+same-game same-k same-pair same-x solveNumber solveOf t-is test-true theirs-is taking-back tried-held true-here w-is writeOf x-is
 """.split()
 
 

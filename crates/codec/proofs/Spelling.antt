@@ -30,9 +30,9 @@ abbrev held : Option Spelled → Spelled
 held None = record { value = 0; end = 0 }
 held (Some x) = x
 
-abbrev IsNone : Option Spelled → Type 0
-IsNone None = Unit {0}
-IsNone (Some x) = ⊥
+abbrev IsAbsent : Option Spelled → Type 0
+IsAbsent None = Unit {0}
+IsAbsent (Some x) = ⊥
 
 module _ (bytes : List ℕ) (at most : ℕ) where
   pub spelled_end : (most ≡ 0) ⊎ ((most ≡ 0 → ⊥) × (length bytes ≤ at)) → None ≡ spelled_out (length bytes) (digits most (drop at bytes))
@@ -60,7 +60,7 @@ module _ (bytes : List ℕ) (at most : ℕ) where
       where
         by : (x : Read) → None ≡ spelled_out (length bytes) x → None ≡ spelled_out (length bytes) (below (get_or bytes at 0) x)
         by refused z = refl
-        by (number n rest) z = absurd (subst IsNone z tt)
+        by (number n rest) z = absurd (subst IsAbsent z tt)
 
     pub above_zero : (s : Spelled) → 128 ≤ get_or bytes at 0 → Some s ≡ spelled_out (length bytes) (digits (most - 1) (drop (at + 1) bytes)) → s.value ≡ 0 →
         None ≡ spelled_out (length bytes) (digits most (drop at bytes))
@@ -78,7 +78,7 @@ module _ (bytes : List ℕ) (at most : ℕ) where
       where
         by : (x : Read) → Some s ≡ spelled_out (length bytes) x →
             Some (record { value = get_or bytes at 0 - 128 + 128 * s.value; end = s.end }) ≡ spelled_out (length bytes) (below (get_or bytes at 0) x)
-        by refused y = absurd (subst IsNone (sym y) tt)
+        by refused y = absurd (subst IsAbsent (sym y) tt)
         by (number n rest) y =
             let v : s.value ≡ n = ap (λ (o : Option Spelled). (held o).value) y in
             ap₂ (λ (k p : ℕ). Some (record { value = get_or bytes at 0 - 128 + 128 * k; end = p })) v (ap (λ (o : Option Spelled). (held o).end) y)
@@ -110,7 +110,7 @@ at_most_35 k v h small =
 -- 32 bits
 pub placed_none : (whole : ℕ) (x : Read) → None ≡ spelled_out whole x → None ≡ placed whole (in_32_bits x)
 placed_none whole refused e = refl
-placed_none whole (number n rest) e = absurd (subst IsNone e tt)
+placed_none whole (number n rest) e = absurd (subst IsAbsent e tt)
 
 pub placed_wide : (whole : ℕ) (x : Read) (s : Spelled) → Some s ≡ spelled_out whole x → 2 ^ 32 ≤ s.value → None ≡ placed whole (in_32_bits x)
 placed_wide whole refused s e h = refl
@@ -120,7 +120,7 @@ placed_wide whole (number n rest) s e h =
 
 pub placed_some : (whole : ℕ) (x : Read) (s : Spelled) → Some s ≡ spelled_out whole x → s.value < 2 ^ 32 →
     Some (record { value = s.value; end = s.end }) ≡ placed whole (in_32_bits x)
-placed_some whole refused s e h = absurd (subst IsNone (sym e) tt)
+placed_some whole refused s e h = absurd (subst IsAbsent (sym e) tt)
 placed_some whole (number n rest) s e h =
     let v : s.value ≡ n = ap (λ (o : Option Spelled). (held o).value) e in
     ap₂ (λ (k p : ℕ). Some (record { value = k; end = p })) v (ap (λ (o : Option Spelled). (held o).end) e)

@@ -61,9 +61,9 @@ second_life =
     ∷ at (0 ∷ []) take_back done
     ∷ []
 
-abbrev pub IsNone : Option Entry → Type 0
-IsNone None = Unit {0}
-IsNone (Some e) = ⊥
+abbrev pub IsAbsent : Option Entry → Type 0
+IsAbsent None = Unit {0}
+IsAbsent (Some e) = ⊥
 
 -- a store that holds nothing
 abbrev pub nothing : StoreMeaning (Unit {0})
@@ -73,7 +73,7 @@ nothing =
       shows = λ s k. None;
       records = λ s e t. Unit {0};
       clears = λ s t. Unit {0};
-      shown = λ s k e z. absurd (subst IsNone z tt);
+      shown = λ s k e z. absurd (subst IsAbsent z tt);
       recorded = λ s t e f r h. absurd h;
       cleared = λ s t e c h. h;
     }

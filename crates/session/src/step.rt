@@ -1,6 +1,6 @@
 // One request of a session.
 ghost use Rattle.std.specs.Prelude.{◌≡◌, ℕ, List, length, take};
-ghost use Rattle.life.specs.Life.{play as playing, take_back as taking-back, clear as clearing, solve as solving, write as writing, check as checking};
+ghost use Rattle.life.specs.Life.{play as playing, take_back as taking_back, clear as clearing, solve as solving, write as writing, check as checking};
 ghost use Rattle.session.specs.Requests.{Desk, desk, memory, call_of, answer_of, Leaves};
 ghost use Rattle.session.specs.Runs.{Makes};
 
@@ -24,7 +24,7 @@ fn play_request<G: Bounded, S: Store>(session: &mut Session<G, S>, k: u32) -> Re
 
 fn take_back_request<G: Bounded, S: Store>(session: &mut Session<G, S>) -> Reply
     ensures same { G.Game.means session.new.game ≡ G.Game.means session.old.game }
-    ensures step { (b : List ℕ) → Makes G.Game.means G.Game.line S.Store.store session.old taking-back (answer_of b result) session.new }
+    ensures step { (b : List ℕ) → Makes G.Game.means G.Game.line S.Store.store session.old taking_back (answer_of b result) session.new }
     ensures quiet { (d : Desk) → Leaves result d d }
 {
     match session.take_back() {
