@@ -70,7 +70,7 @@ class Bench:
         layer = f' limit={limit}' if limit else ''
         card = f'{position}{layer} floor={floor} slots={slots} budget='
         pattern = r'^card 1: .*?, bytes (\d+), plays (\d+)$.*^ +solved \w+, move \d+, plays (\d+)$'
-        (length, checked, solved), seconds = measured(lambda budget: ([self.cards, '--no-progress'], f'{card}{budget}\n'), pattern)
+        (length, checked, solved), seconds = measured(lambda budget: ([self.cards], f'{card}{budget}\n'), pattern)
         return (solved, length, checked), seconds
 
 
