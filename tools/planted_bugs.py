@@ -1,11 +1,12 @@
 #!/usr/bin/env python3
 """The table of docs/PLANTED_BUGS.md: every must-fail edit, what refused it, and since when it is tried.
 
-    planted_bugs.py > TABLE       after a run of the gate, whose logs in target/must-fail/ it reads
+    planted_bugs.py LOG > TABLE       LOG is what a run of the gate printed
 """
 import pathlib
 import re
 import subprocess
+import sys
 
 TOP = pathlib.Path(__file__).resolve().parent.parent
 
@@ -15,17 +16,15 @@ def fields(edit):
     return [line.split(': ', 1)[1] if ': ' in line else '' for line in edit.read_text().rstrip('\n').split('\n')]
 
 
-def refusal(crate, label):
-    """Where the prover refused the edit first: the function and the fact."""
-    log = TOP / 'target' / 'must-fail' / crate / label / '.log'
-    if not log.is_file():
-        return 'not tried'
-    text = log.read_text()
-    where = re.search(r'/(src|proofs|specs)/(\S+?):(\d+):\d+: (.*)', text)
-    name = re.search(r'fn (\S+): no proof', text)
-    what = re.sub(r'\(`[^`]*`\).*', '', where.group(4)).strip() if where else 'no fact named'
-    function = '::'.join(name.group(1).split('::')[1:]) if name else ''
-    return f'`{function}`: {what}' if function else what
+def refusals(log):
+    """Where the prover refused each edit first: the place and the goal."""
+    found = {}
+    for line in log.read_text().split('\n'):
+        m = re.match(r'rt: must-fail (\w+)/(\w+)\.edit: refused, as it must be: \w+: (src/\S+?):\d+:\d+: (.*)', line)
+        if m:
+            goal = re.search(r'\(`([^`]*)`\)', m.group(4))
+            found[m.group(1, 2)] = f'`{m.group(3)}`: ' + (f'goal `{goal.group(1)}`' if goal else m.group(4))
+    return found
 
 
 def since(edit):
@@ -38,6 +37,7 @@ def code(text):
 
 
 def main():
+    refused = refusals(pathlib.Path(sys.argv[1]))
     crates = [line.split(':')[0] for line in (TOP / 'crates.txt').read_text().split('\n') if ':' in line and not line.startswith('#')]
     for crate in crates:
         edits = sorted((TOP / 'crates' / crate / 'must-fail').glob('*.edit'))
@@ -47,7 +47,8 @@ def main():
         for edit in edits:
             file, old, new = (fields(edit) + [''] * 3)[:3]
             label = edit.stem.replace('_', ' ')
-            print(f'| {label} | {code(old)} | {code(new)} | {refusal(crate, edit.stem)} | {since(edit)} |')
+            by = refused.get((crate, edit.stem), 'not tried')
+            print(f'| {label} | {code(old)} | {code(new)} | {by} | {since(edit)} |')
 
 
 main()
