@@ -5,8 +5,9 @@ camel case. It was run once, right after the kit's port.py; docs/PORT.md says wh
     respell_names.py [--dry] [TOP]
 
 A name is one that some .antt file of specs/ or proofs/ declares, but not the name of a goal (`returns : goal.returns`), which
-Rattle makes. Names that a library has under the same spelling are left alone. In comments only names in camel case are turned,
-since a word with a dash may be plain English there; in README and docs/ what stands in backquotes. Functions of src/, strings, inputs and outputs keep their names.
+Rattle makes. Names that a library has under the same spelling are left alone. In comments only names in camel case and facts are
+turned, since a small word with a dash may be plain English there; in README and docs/ what stands in backquotes. Functions
+of src/, strings, inputs and outputs keep their names.
 """
 import pathlib
 import re
@@ -96,7 +97,7 @@ def main():
             code = WORD.sub(lambda m: turned.get(m.group(), m.group()), line[:at])
             if p.suffix == '.rt' and '"' in line:
                 code = line[:at]
-            said = WORD.sub(lambda m: m.group() if '-' in m.group() else turned.get(m.group(), m.group()), line[at:])
+            said = WORD.sub(lambda m: m.group() if re.match('[^A-Z].*-', m.group()) else turned.get(m.group(), m.group()), line[at:])
             made.append(code + said)
         p.write_text('\n'.join(made))
     for p in [top / 'README.md', *sorted(top.glob('docs/*.md'))]:

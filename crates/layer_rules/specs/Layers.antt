@@ -48,7 +48,7 @@ layered m y = record {
 abbrev pub short_context : View → Bool
 short_context v = v.independent && nat_lt v.context (2 ^ 56)
 
--- Limit: a line of n moves ends (no reachable line is longer, see Limit-exact); the context word of a path-independent
+-- Limit: a line of n moves ends (no reachable line is longer, see LimitExact); the context word of a path-independent
 -- line has the number of the moves left in its lowest eight bits
 abbrev pub limit_layer : ℕ → Meaning → Layer
 limit_layer n m = record {
