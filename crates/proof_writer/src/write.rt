@@ -1,7 +1,7 @@
 // Writing a proof file.
 ghost use Rattle.std.specs.Prelude.{◌≡◌, ◌≤◌, length};
 ghost use Rattle.search_method.specs.Tree.{Runs};
-ghost use Rattle.proof_method.specs.Restored.{Restored};
+ghost use Rattle.game.specs.Kept.{Kept};
 ghost use Rattle.proof_method.specs.Write.{write as write_of, write_in, buffer};
 ghost use Rattle.proof_writer.specs.Writing.{written_by, Fits, Past};
 
@@ -9,7 +9,8 @@ use crate::finding::find;
 use crate::refusal::WriteRefusal;
 use crate::walk::put_file;
 use game::interface::Bounded;
-use proof_method::claim::{Claim, State};
+use proof_method::state::State;
+use search_method::claim::Claim;
 use search::memory::LineRecord;
 use search_method::kinds::{Answer, Pair};
 use store::interface::Store;
@@ -36,7 +37,7 @@ fn put_proof<G: Bounded, S: Store>(
     requires memory { (97 ≤ length lines.old) × (6_208 ≤ length moves.old) }
     ensures is { Runs S.Store.store (write_of (G.Game.means game.old) (G.Game.line game.old) floor budget (length out.old)) store.old store.new (written_by out.new result) }
     ensures past { Past out.old out.new result }
-    ensures restored { Restored G.Game.means G.Game.line game.old game.new }
+    ensures kept { Kept G.Game.means G.Game.line game.old game.new }
 {
     match find(game, store, floor, budget, lines, moves) {
         Answer::OutOfBudget { .. } => Err(WriteRefusal::OutOfBudget),
@@ -77,7 +78,7 @@ pub fn write<G: Bounded, S: Store>(
     ensures is { Runs S.Store.store (write_in (length lines.old) (length moves.old) (G.Game.means game.old) (G.Game.line game.old) floor budget (length out.old)) store.old store.new (written_by out.new result) }
     ensures buffer { out.new ≡ buffer out.old (written_by out.new result) }
     ensures fits { Fits out.new result }
-    ensures restored { Restored G.Game.means G.Game.line game.old game.new }
+    ensures kept { Kept G.Game.means G.Game.line game.old game.new }
 {
     if floor == 0 || floor > 2 {
         return Err(WriteRefusal::Floor);

@@ -1,7 +1,7 @@
 use Rattle.search_method.specs.Search.{solve}
 use Rattle.search_method.proofs.Bound.{budget_enough}
 use Rattle.search_method.proofs.Truth.{verdicts_true}
-use Rattle.search.proofs.Doing.{kept_same}
+use Rattle.game.proofs.Kept.{kept_same}
 use Rattle.search.proofs.Solving.{refused, ran}
 use Rattle.search.proofs.solve.solve.Goals as goal
 

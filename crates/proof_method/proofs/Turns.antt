@@ -1,23 +1,12 @@
--- A game that is left and comes back to its line; what a refusal passed on by `?` is; a line with room.
+-- What a refusal passed on by `?` is; a line with room; the side on turn.
 use Rattle.std.proofs.Common.{◌≡◌, ℕ, ◌<◌, Bool, ◌∷◌, length, IsErrAnd, None, Ok, Err, Result, sym, ap, ◌∙◌, arith}
 use Rattle.game.specs.declared.kinds.Side.{Side}
 use Rattle.game.specs.Meaning.{Line, Meaning}
 use Rattle.game.specs.Laws.{Bounded, Room}
-use Rattle.game.specs.Refusals.{shorter}
 use Rattle.game.proofs.Bounds.{room_under}
 use Rattle.game.proofs.Value.{none_is}
-use Rattle.proof_method.specs.declared.claim.Claim.{Claim}
-use Rattle.proof_method.specs.Claims.{claims}
-use Rattle.proof_method.specs.Restored.{Restored}
-
-pub restored_then : {G : Type 0} {means : G → Meaning} {line : G → Line} {f g h : G} → Restored means line f g → Restored means line g h → Restored means line f h
-restored_then p q = record { same = q.same ∙ p.same; back = q.back ∙ p.back }
-
--- a move is played, the game comes back to the line after it, and the move is taken back
-pub visited : {G : Type 0} {means : G → Meaning} {line : G → Line} {a b c d : G} {k : ℕ} → means b ≡ means a → line b ≡ k ∷ line a →
-    Restored means line b c → means d ≡ means c → line d ≡ shorter (line c) → Restored means line a d
-visited same goes restored back_same back_goes =
-    record { same = back_same ∙ restored.same ∙ same; back = back_goes ∙ ap shorter (restored.back ∙ goes) }
+use Rattle.search_method.specs.declared.claim.Claim.{Claim}
+use Rattle.search_method.specs.Claims.{claims}
 
 pub residual_is : {A E : Type 0} (r : Result A E) (e : E) → IsErrAnd r (λ x. x ≡ e) → r ≡ Err e
 residual_is (Ok s) e h = absurd h
