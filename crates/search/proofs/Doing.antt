@@ -1,14 +1,12 @@
 -- Parts of the search, one after another, and the plays and moves between them.
-use Rattle.std.proofs.Common.{◌≡◌, ℕ, zero, suc, ◌-◌, ◌<◌, cond, eqb, ◌∷◌, is_some, Some, None, Option, refl, ap, ◌∙◌, arith}
+use Rattle.std.proofs.Common.{◌≡◌, ℕ, zero, suc, ◌-◌, ◌<◌, cond, eqb, is_some, Some, None, Option, refl, ap, arith}
 use Rattle.std.proofs.lemmas.Bool.Decides.{nat_tests}
 use Rattle.game.specs.Meaning.{Line, Meaning}
 use Rattle.game.specs.Laws.{Bounded, Room}
-use Rattle.game.specs.Refusals.{shorter}
 use Rattle.game.proofs.Bounds.{room_under}
 use Rattle.store.specs.Interface.{StoreMeaning}
 use Rattle.search_method.specs.Search.{exhausted, got, Part, next, ◌>>=◌, played, height_of, moves_left}
 use Rattle.search_method.proofs.Runs.{runs_bind}
-use Rattle.game.specs.Kept.{Kept}
 use Rattle.search.specs.Does.{came, Does}
 
 -- with a play left, what follows it is done with one less

@@ -1,6 +1,6 @@
 -- What the code does of a part of the search: the plays left before and after, and the store before and
 -- after.
-use Rattle.std.specs.Prelude.{◌≡◌, ℕ, List, Some, None, Option}
+use Rattle.std.specs.Prelude.{ℕ, List, Some, None, Option}
 use Rattle.store.specs.Interface.{StoreMeaning}
 use Rattle.search_method.specs.Tree.{Runs}
 use Rattle.search_method.specs.Search.{Out, exhausted, got, Part}
