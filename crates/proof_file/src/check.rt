@@ -9,6 +9,7 @@ use codec::read_number;
 use game::interface::Bounded;
 use proof_method::state::State;
 use search_method::claim::Claim;
+use search_method::memory::WorkMemory;
 
 // A proof file that check accepted: its claim, its length and the plays of its walk. Only check makes one.
 #[derive(Drop)]
@@ -233,15 +234,14 @@ pub fn check<G: Bounded, L, M>(
     game: &mut G,
     proof: &[u8],
     budget: u32,
-    lines: &mut [L],
-    moves: &mut [M],
+    memory: &mut WorkMemory<'_, L, M>,
 ) -> Result<CheckedProof, Fault>
-    ensures is { checked_by result ≡ check_in (length lines.old) (length moves.old) (G.Game.means game.old) (G.Game.line game.old) proof.now budget }
+    ensures is { checked_by result ≡ check_in (length memory.old.lines.now) (length memory.old.moves.now) (G.Game.means game.old) (G.Game.line game.old) proof.now budget }
     ensures kept { Kept G.Game.means G.Game.line game.old game.new }
-    ensures lines { lines.new ≡ lines.old }
-    ensures moves { moves.new ≡ moves.old }
+    ensures lines { memory.new.lines.now ≡ memory.old.lines.now }
+    ensures moves { memory.new.moves.now ≡ memory.old.moves.now }
 {
-    if lines.len() < 97 || moves.len() < 6_208 {
+    if !memory.suffices() {
         return Err(Fault {
             reason: Reason::Memory,
             place: 0,

@@ -1,5 +1,5 @@
 -- What a refusal passed on by `?` is; a line with room; the side on turn.
-use Rattle.std.proofs.Common.{◌≡◌, ℕ, ◌<◌, Bool, ◌∷◌, length, IsErrAnd, None, Ok, Err, Result, sym, ap, ◌∙◌, arith}
+use Rattle.std.proofs.Common.{◌≡◌, ◌<◌, Bool, length, IsErrAnd, None, Ok, Err, Result, sym, ap, ◌∙◌, arith}
 use Rattle.game.specs.declared.kinds.Side.{Side}
 use Rattle.game.specs.Meaning.{Line, Meaning}
 use Rattle.game.specs.Laws.{Bounded, Room}

@@ -9,6 +9,7 @@ use game::interface::Bounded;
 use search::memory::LineRecord;
 use search::solve::solve;
 use search_method::kinds::{Answer, Pair};
+use search_method::memory::WorkMemory;
 use store::interface::Store;
 
 pub(crate) fn find<G: Bounded, S: Store>(
@@ -25,7 +26,8 @@ pub(crate) fn find<G: Bounded, S: Store>(
     ensures counted { count_of result ≤ budget }
     ensures kept { Kept G.Game.means G.Game.line game.old game.new }
 {
-    match solve(game, store, floor as u32, budget, lines, moves) {
+    let mut memory = WorkMemory { lines, moves };
+    match solve(game, store, floor as u32, budget, &mut memory) {
         Ok(answer) => answer,
         Err(_) => Answer::OutOfBudget { count: budget },
     }

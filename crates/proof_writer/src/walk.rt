@@ -9,8 +9,8 @@ use crate::refusal::WriteRefusal;
 use codec::put_number;
 use game::interface::Bounded;
 use proof_method::state::State;
-use search_method::claim::Claim;
 use search::memory::LineRecord;
+use search_method::claim::Claim;
 use search_method::kinds::{Answer, Pair};
 use store::interface::Store;
 

@@ -10,8 +10,8 @@ use crate::refusal::WriteRefusal;
 use crate::walk::put_file;
 use game::interface::Bounded;
 use proof_method::state::State;
+use search::memory::{LineRecord, SearchMemory};
 use search_method::claim::Claim;
-use search::memory::LineRecord;
 use search_method::kinds::{Answer, Pair};
 use store::interface::Store;
 
@@ -71,22 +71,31 @@ pub fn write<G: Bounded, S: Store>(
     store: &mut S,
     floor: u32,
     budget: u32,
-    lines: &mut [LineRecord],
-    moves: &mut [Pair],
+    memory: &mut SearchMemory<'_>,
     out: &mut [u8],
 ) -> Result<Written, WriteRefusal>
-    ensures is { Runs S.Store.store (write_in (length lines.old) (length moves.old) (G.Game.means game.old) (G.Game.line game.old) floor budget (length out.old)) store.old store.new (written_by out.new result) }
+    ensures is { Runs S.Store.store (write_in (length memory.old.lines.now) (length memory.old.moves.now) (G.Game.means game.old) (G.Game.line game.old) floor budget (length out.old)) store.old store.new (written_by out.new result) }
     ensures buffer { out.new ≡ buffer out.old (written_by out.new result) }
     ensures fits { Fits out.new result }
+    ensures lines { length memory.new.lines.now ≡ length memory.old.lines.now }
+    ensures moves { length memory.new.moves.now ≡ length memory.old.moves.now }
     ensures kept { Kept G.Game.means G.Game.line game.old game.new }
 {
     if floor == 0 || floor > 2 {
         return Err(WriteRefusal::Floor);
     }
-    if lines.len() < 97 || moves.len() < 6_208 {
+    if !memory.suffices() {
         return Err(WriteRefusal::Memory);
     }
-    match put_proof(game, store, lines, moves, out, floor as u8, budget) {
+    match put_proof(
+        game,
+        store,
+        memory.lines,
+        memory.moves,
+        out,
+        floor as u8,
+        budget,
+    ) {
         Ok(written) => Ok(written),
         Err(refusal) => {
             out.fill(0);

@@ -58,6 +58,8 @@ fn run<G: Bounded, S: Store>(
     requires room { 6208 ≤ length memory.old.moves.now }
     ensures runs { Runs S.Store.store (solved (G.Game.means game.old) (G.Game.line game.old) floor budget) store.old store.new result }
     ensures within { count_of result ≤ budget }
+    ensures lines { length memory.new.lines.now ≡ length memory.old.lines.now }
+    ensures moves { length memory.new.moves.now ≡ length memory.old.moves.now }
     ensures kept { Kept G.Game.means G.Game.line game.old game.new }
 {
     if let Some(score) = game.score() {
@@ -93,6 +95,8 @@ pub fn solve<G: Bounded, S: Store>(
 ) -> Result<Answer, SolveRefusal>
     ensures answers { Answers S.Store.store (solved (G.Game.means game.old) (G.Game.line game.old) floor budget) (refusal_due floor (length memory.old.lines.now) (length memory.old.moves.now)) store.old store.new result }
     ensures within { Within budget result }
+    ensures lines { length memory.new.lines.now ≡ length memory.old.lines.now }
+    ensures moves { length memory.new.moves.now ≡ length memory.old.moves.now }
     ensures kept { Kept G.Game.means G.Game.line game.old game.new }
     ensures sound { VerdictsTrue S.Store.store }
     ensures enough { BudgetEnough }
