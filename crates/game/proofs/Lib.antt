@@ -1,4 +1,5 @@
 pub mod Plays
 pub mod Bounds
 pub mod Prefixes
+pub mod Kept
 pub mod Value

@@ -1,7 +1,7 @@
 -- The value of a line: it does not depend on the fuel, and bisimilar lines have the same value.
-use Rattle.std.proofs.Common.{◌≡◌, ℕ, zero, suc, ◌+◌, ◌<◌, ◌≤◌, min, max, Bool, true, false, not, T, leb, ◌⊎◌, [], ◌∷◌, ◌++◌, length, is_some, Some, None, Option, sym, refl, ap, ◌∙◌, subst, ap₂, inl, inr, append_assoc, arith, le→leb, leb→le}
+use Rattle.std.proofs.Common.{◌≡◌, ℕ, zero, suc, ◌+◌, ◌<◌, ◌≤◌, min, max, Bool, true, false, not, T, leb, ◌⊎◌, [], ◌∷◌, ◌++◌, length, is_some, Some, None, Option, sym, refl, ap, ◌∙◌, subst, ap₂, inl, inr, append_assoc, arith}
 use native.Mathlib.Decide.{dec_le}
-use lib.Dec.{nleb→lt}
+use Rattle.std.proofs.lemmas.Bool.{le-leb, lt-leb, leb-true, leb-false}
 use Rattle.game.specs.Kinds.{Side, Score, is_black, points}
 use Rattle.game.specs.Meaning.{Line, Meaning, Reachable, Same, Bisimilar}
 use Rattle.game.specs.Laws.{Lawful, BoundedBy}
@@ -152,26 +152,6 @@ bisimilar_back m n p q r alike w s =
     back (k ∷ w) s = let b = back w s.0 in (b, omega (arith, s.1, (alike w b).1.moves))
 
 -- one move with the mover's verdict settles the line, and so do all moves with the other verdict
-pub leb-true : (a b : ℕ) → a ≤ b → leb a b ≡ true
-leb-true a b h = by (leb a b) (le→leb a b h)
-  where
-    by : (t : Bool) → T t → t ≡ true
-    by true x = refl
-    by false x = absurd x
-
-pub leb-false : (a b : ℕ) → b < a → leb a b ≡ false
-leb-false a b h = by (leb a b) (λ x. absurd (omega (arith, leb→le a b x)))
-  where
-    by : (t : Bool) → (T t → ⊥) → t ≡ false
-    by true x = absurd (x tt)
-    by false x = refl
-
-pub le_of : (a b : ℕ) → leb a b ≡ true → a ≤ b
-le_of a b e = leb→le a b (subst T (sym e) tt)
-
-pub lt_of : (a b : ℕ) → leb a b ≡ false → b < a
-lt_of a b e = nleb→lt a b (subst (λ (x : Bool). T (not x)) (sym e) tt)
-
 greatest_above : (n : ℕ) (g : ℕ → ℕ) (k : ℕ) → k < n → g k ≤ greatest n g
 greatest_above zero g k h = absurd (omega arith)
 greatest_above (suc n) g k h = by (last_or_below (suc k) n h) (greatest_above n g k)
@@ -199,10 +179,10 @@ least_over floor (suc n) g f h =
     omega (arith, least_over floor n g f (λ k x. h k (omega arith)), h n (omega arith))
 
 pub one_settles : (floor : ℕ) (b : Bool) (n : ℕ) (g : ℕ → ℕ) (k : ℕ) → k < n → leb floor (g k) ≡ b → leb floor (best b n g) ≡ b
-one_settles floor true n g k h e = leb-true floor (greatest n g) (omega (arith, greatest_above n g k h, le_of floor (g k) e))
-one_settles floor false n g k h e = leb-false floor (least n g) (omega (arith, least_below n g k h, lt_of floor (g k) e))
+one_settles floor true n g k h e = le-leb floor (greatest n g) (omega (arith, greatest_above n g k h, leb-true floor (g k) e))
+one_settles floor false n g k h e = lt-leb floor (least n g) (omega (arith, least_below n g k h, leb-false floor (g k) e))
 
 pub all_settle : (floor : ℕ) (b : Bool) (n : ℕ) (g : ℕ → ℕ) → 1 ≤ floor → floor ≤ 2 →
     ((k : ℕ) → k < n → leb floor (g k) ≡ not b) → leb floor (best b n g) ≡ not b
-all_settle floor true n g low high e = leb-false floor (greatest n g) (greatest_under floor n g low (λ k x. lt_of floor (g k) (e k x)))
-all_settle floor false n g low high e = leb-true floor (least n g) (least_over floor n g high (λ k x. le_of floor (g k) (e k x)))
+all_settle floor true n g low high e = lt-leb floor (greatest n g) (greatest_under floor n g low (λ k x. leb-false floor (g k) (e k x)))
+all_settle floor false n g low high e = le-leb floor (least n g) (least_over floor n g high (λ k x. leb-true floor (g k) (e k x)))

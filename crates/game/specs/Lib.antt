@@ -4,4 +4,5 @@ pub mod Laws
 pub mod Value
 pub mod Prefixes
 pub mod Refusals
+pub mod Kept
 pub mod Theorems

@@ -14,19 +14,13 @@ impl Side {
     pub fn number(self) -> u8
         ensures { result ≡ number_of self }
     {
-        match self {
-            Side::Black => 0,
-            Side::White => 1,
-        }
+        u8::from(self == Side::White)
     }
 
     pub fn is_black(self) -> bool
         ensures { result ≡ is_black self }
     {
-        match self {
-            Side::Black => true,
-            Side::White => false,
-        }
+        self == Side::Black
     }
 
     pub fn other(self) -> Side
@@ -42,9 +36,9 @@ impl Side {
 // How a line that is over has ended.
 #[derive(Clone, Copy, PartialEq, Eq, Debug)]
 pub enum Score {
-    WhiteWins,
-    Draw,
-    BlackWins,
+    WhiteWins = 0,
+    Draw = 1,
+    BlackWins = 2,
 }
 
 impl Score {
@@ -52,11 +46,7 @@ impl Score {
     pub fn points(self) -> u8
         ensures { result ≡ points self }
     {
-        match self {
-            Score::WhiteWins => 0,
-            Score::Draw => 1,
-            Score::BlackWins => 2,
-        }
+        self as u8
     }
 }
 

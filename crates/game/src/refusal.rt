@@ -5,22 +5,17 @@ ghost use Rattle.game.specs.Refusals.{refusal_number, position_refused};
 // Why a play or a take back was refused.
 #[derive(Clone, Copy, PartialEq, Eq, Debug)]
 pub enum Refusal {
-    NoSuchMove,
-    LineOver,
-    LineFull,
-    AtStart,
+    NoSuchMove = 1,
+    LineOver = 2,
+    LineFull = 3,
+    AtStart = 4,
 }
 
 impl Refusal {
     pub fn number(self) -> u8
         ensures { result ≡ refusal_number self }
     {
-        match self {
-            Refusal::NoSuchMove => 1,
-            Refusal::LineOver => 2,
-            Refusal::LineFull => 3,
-            Refusal::AtStart => 4,
-        }
+        self as u8
     }
 }
 
@@ -45,8 +40,7 @@ impl PositionRefusal {
         ensures { result ≡ (position_refused self).place }
     {
         match self {
-            PositionRefusal::OutOfForm { place } => place,
-            PositionRefusal::NotAllowed { place } => place,
+            PositionRefusal::OutOfForm { place } | PositionRefusal::NotAllowed { place } => place,
         }
     }
 }

@@ -9,7 +9,7 @@ use Rattle.game.specs.Meaning.{Line, Meaning}
 use Rattle.proof_file.specs.declared.fault.Reason.{Reason}
 use Rattle.proof_file.specs.declared.fault.Reason.TheVariants.{NotANumber, NotAClaim, BytesLeft}
 use Rattle.proof_file.specs.declared.fault.Fault.{Fault as CodeFault}
-use Rattle.proof_method.specs.declared.claim.State.{State}
+use Rattle.proof_method.specs.declared.state.State.{State}
 use Rattle.proof_method.specs.Check.{through, fault, Checked, accepted, faulty, finish, claim, by_verdict, by_floor, check}
 use Rattle.proof_file.specs.Faults.{reason_number, carried_by, fault_of, walked_by, Walks}
 use Rattle.proof_method.proofs.Accepting.{floor_passes}

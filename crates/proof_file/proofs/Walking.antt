@@ -18,17 +18,17 @@ use Rattle.game.proofs.Value.{le_of, lt_of, none_is}
 use Rattle.proof_file.specs.declared.fault.Reason.{Reason}
 use Rattle.proof_file.specs.declared.fault.Reason.TheVariants.{OutOfBudget, NotANumber, Refused, Denied}
 use Rattle.proof_file.specs.declared.fault.Fault.{Fault as CodeFault}
-use Rattle.proof_method.specs.declared.claim.State.{State}
-use Rattle.proof_method.specs.declared.claim.Claim.{Claim}
-use Rattle.proof_method.specs.Restored.{Restored}
+use Rattle.proof_method.specs.declared.state.State.{State}
+use Rattle.search_method.specs.declared.claim.Claim.{Claim}
+use Rattle.game.specs.Kept.{Kept}
 use Rattle.proof_method.specs.Check.{Fault, Walked, through, stopped, then, choose, fault, played, own, each, at_line, walk}
 use Rattle.proof_file.specs.Faults.{reason_number, carried_by, fault_of, walked_by, Within, Walks, below, Descends, GoesThrough}
 
-pub descends_restored : {G : Type 0} (means : G → Meaning) (line : G → Line) (g h : G) → Restored means line g h →
+pub descends_kept : {G : Type 0} (means : G → Meaning) (line : G → Line) (g h : G) → Kept means line g h →
     (bytes : List ℕ) (claim : Claim) (d k from : ℕ) (s : State) (r : Result State CodeFault) →
     Descends (means h) bytes claim (line h) d k from s r → Descends (means g) bytes claim (line g) d k from s r
-descends_restored means line g h restored bytes claim d k from s r one =
-    subst₂ (λ (m : Meaning) (l : Line). Descends m bytes claim l d k from s r) restored.same restored.back one
+descends_kept means line g h kept bytes claim d k from s r one =
+    subst₂ (λ (m : Meaning) (l : Line). Descends m bytes claim l d k from s r) kept.same kept.back one
 
 -- what a refusal of a play tells at a line that goes on and has room
 positive : (r : Refusal) → 0 < refusal_number r

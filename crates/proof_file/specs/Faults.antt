@@ -6,8 +6,8 @@ use Rattle.proof_method.specs.Check.{Checked, accepted, faulty, Fault, Walked, t
 use Rattle.proof_file.specs.declared.fault.Reason.{Reason}
 use Rattle.proof_file.specs.declared.fault.Reason.TheVariants.{Memory, OutOfBudget, NotANumber, NotAClaim, Refused, Denied, BytesLeft}
 use Rattle.proof_file.specs.declared.fault.Fault.{Fault as CodeFault}
-use Rattle.proof_method.specs.declared.claim.State.{State}
-use Rattle.proof_method.specs.declared.claim.Claim.{Claim}
+use Rattle.proof_method.specs.declared.state.State.{State}
+use Rattle.search_method.specs.declared.claim.Claim.{Claim}
 use Rattle.proof_file.specs.declared.check.CheckedProof.{CheckedProof}
 
 -- the number of each fault

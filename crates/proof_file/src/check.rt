@@ -1,13 +1,15 @@
 // Checking a proof file.
 ghost use Rattle.std.specs.Prelude.{◌≡◌, ◌≤◌, length, None};
 ghost use Rattle.proof_method.specs.Check.{check as check_of, check_in};
-ghost use Rattle.proof_method.specs.Restored.{Restored};
+ghost use Rattle.game.specs.Kept.{Kept};
 ghost use Rattle.proof_file.specs.Faults.{Within, Walks, Descends, GoesThrough, checked_by, proof_of};
 
 use crate::fault::{Fault, Reason};
 use codec::read_number;
 use game::interface::Bounded;
-use proof_method::claim::{Claim, State};
+use proof_method::state::State;
+use search_method::claim::Claim;
+use search_method::memory::WorkMemory;
 
 // A proof file that check accepted: its claim, its length and the plays of its walk. Only check makes one.
 #[derive(Drop)]
@@ -60,7 +62,7 @@ fn descend<G: Bounded>(
     requires inside { (state.at ≤ length proof.now) × (from ≤ length proof.now) }
     ensures is { Descends (G.Game.means game.old) proof.now claim (G.Game.line game.old) depth k from state result }
     ensures within { Within proof.now state.left result }
-    ensures restored { Restored G.Game.means G.Game.line game.old game.new }
+    ensures kept { Kept G.Game.means G.Game.line game.old game.new }
 {
     if state.left == 0 && k < game.moves() {
         return Err(Fault {
@@ -106,7 +108,7 @@ fn all_moves<G: Bounded>(
     requires inside { start.at ≤ length proof.now }
     ensures is { GoesThrough (G.Game.means game.old) proof.now claim (G.Game.line game.old) depth start result }
     ensures within { Within proof.now start.left result }
-    ensures restored { Restored G.Game.means G.Game.line game.old game.new }
+    ensures kept { Kept G.Game.means G.Game.line game.old game.new }
 {
     let mut state = start;
     for k in 0..moves {
@@ -128,7 +130,7 @@ fn walk<G: Bounded>(
     requires inside { state.at ≤ length proof.now }
     ensures is { Walks (G.Game.means game.old) proof.now claim (G.Game.line game.old) depth state result }
     ensures within { Within proof.now state.left result }
-    ensures restored { Restored G.Game.means G.Game.line game.old game.new }
+    ensures kept { Kept G.Game.means G.Game.line game.old game.new }
 {
     if let Some(score) = game.score() {
         if claim.given_by(score) {
@@ -168,7 +170,7 @@ fn walk<G: Bounded>(
 // The claim, then the walk.
 fn check_bytes<G: Bounded>(game: &mut G, proof: &[u8], budget: u32) -> Result<CheckedProof, Fault>
     ensures is { checked_by result ≡ check_of (G.Game.means game.old) (G.Game.line game.old) proof.now budget }
-    ensures restored { Restored G.Game.means G.Game.line game.old game.new }
+    ensures kept { Kept G.Game.means G.Game.line game.old game.new }
 {
     let Some(floor) = read_number(proof, 0) else {
         return Err(Fault {
@@ -232,15 +234,14 @@ pub fn check<G: Bounded, L, M>(
     game: &mut G,
     proof: &[u8],
     budget: u32,
-    lines: &mut [L],
-    moves: &mut [M],
+    memory: &mut WorkMemory<'_, L, M>,
 ) -> Result<CheckedProof, Fault>
-    ensures is { checked_by result ≡ check_in (length lines.old) (length moves.old) (G.Game.means game.old) (G.Game.line game.old) proof.now budget }
-    ensures restored { Restored G.Game.means G.Game.line game.old game.new }
-    ensures lines { lines.new ≡ lines.old }
-    ensures moves { moves.new ≡ moves.old }
+    ensures is { checked_by result ≡ check_in (length memory.old.lines.now) (length memory.old.moves.now) (G.Game.means game.old) (G.Game.line game.old) proof.now budget }
+    ensures kept { Kept G.Game.means G.Game.line game.old game.new }
+    ensures lines { memory.new.lines.now ≡ memory.old.lines.now }
+    ensures moves { memory.new.moves.now ≡ memory.old.moves.now }
 {
-    if lines.len() < 97 || moves.len() < 6_208 {
+    if !memory.suffices() {
         return Err(Fault {
             reason: Reason::Memory,
             place: 0,

@@ -3,5 +3,5 @@ pub mod Strategy
 pub mod Walk
 pub mod Accepting
 pub mod Bisimilar
-pub mod Restoring
+pub mod Turns
 pub mod Write

@@ -5,10 +5,10 @@
 // means. `Check`: what check answers for any bytes. `Write`: what write does, as a computation over a store. Then what
 // is proved of them: `Theorems` of check, `Writing` of write over a sound store.
 //
-// The types that check and write share are `Claim` and `State`. Each other function here states one theorem.
+// The type that check and write share is `State`. Each function here states one theorem.
 #![tactic(auto)]
 
-pub mod claim;
+pub mod state;
 
 ghost use Rattle.proof_method.specs.Theorems.{AcceptsProofs, ClaimsTrue, BisimilarChecked};
 ghost use Rattle.proof_method.specs.Writing.{WritesProofs, ClaimFound, NoStray};

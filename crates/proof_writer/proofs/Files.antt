@@ -8,9 +8,9 @@ use Rattle.search_method.specs.declared.kinds.Answer.TheVariants.{Solved, OutOfB
 use Rattle.search_method.specs.Tree.{done, Runs}
 use Rattle.search_method.specs.Search.{solve}
 use Rattle.search_method.proofs.Runs.{runs_bind}
-use Rattle.proof_method.specs.declared.claim.Claim.{Claim}
-use Rattle.proof_method.specs.declared.claim.State.{State}
-use Rattle.proof_method.specs.Restored.{Restored}
+use Rattle.search_method.specs.declared.claim.Claim.{Claim}
+use Rattle.proof_method.specs.declared.state.State.{State}
+use Rattle.game.specs.Kept.{Kept}
 use Rattle.proof_method.specs.Write.{Part, number, start, end, proof, unwritten, after_solve, write}
 use Rattle.proof_writer.specs.declared.refusal.WriteRefusal.{WriteRefusal}
 use Rattle.proof_writer.specs.Writing.{write_number, put_by, Does, Starts}
@@ -55,8 +55,8 @@ number_is 𝓢 p k j same s before mid from after to r e z w size d =
     subst (λ (i : ℕ). Does 𝓢 (λ f. number (length before) i (p (length before) f)) s before from after to r) same
     (number_on 𝓢 p j s before mid from after to r e z w size d)
 
-pub starts_restored : {S G : Type 0} (𝓢 : StoreMeaning S) (means : G → Meaning) (line : G → Line) (g h : G) → Restored means line g h →
+pub starts_kept : {S G : Type 0} (𝓢 : StoreMeaning S) (means : G → Meaning) (line : G → Line) (g h : G) → Kept means line g h →
     (claim : Claim) (k : ℕ) (s : State) (before : List ℕ) (from : S) (after : List ℕ) (to : S) (r : Result State WriteRefusal) →
     Starts 𝓢 (means h) claim (line h) k s before from after to r → Starts 𝓢 (means g) claim (line g) k s before from after to r
-starts_restored 𝓢 means line g h restored claim k s before from after to r one =
-    subst₂ (λ (m : Meaning) (l : Line). Starts 𝓢 m claim l k s before from after to r) restored.same restored.back one
+starts_kept 𝓢 means line g h kept claim k s before from after to r one =
+    subst₂ (λ (m : Meaning) (l : Line). Starts 𝓢 m claim l k s before from after to r) kept.same kept.back one

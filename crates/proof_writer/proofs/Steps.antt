@@ -12,10 +12,10 @@ use Rattle.search_method.specs.declared.kinds.Answer.TheVariants.{Solved, OutOfB
 use Rattle.search_method.specs.Tree.{done, Runs}
 use Rattle.search_method.specs.Search.{solve}
 use Rattle.search_method.proofs.Runs.{runs_bind}
-use Rattle.proof_method.specs.declared.claim.Claim.{Claim}
-use Rattle.proof_method.specs.declared.claim.State.{State}
-use Rattle.proof_method.specs.Claims.{claims}
-use Rattle.proof_method.specs.Restored.{Restored}
+use Rattle.search_method.specs.declared.claim.Claim.{Claim}
+use Rattle.proof_method.specs.declared.state.State.{State}
+use Rattle.search_method.specs.Claims.{claims}
+use Rattle.game.specs.Kept.{Kept}
 use Rattle.proof_method.specs.Write.{Put, put, failed, Part, next, choose, played, number, each, by_answer, at_line, walk}
 use Rattle.proof_writer.specs.declared.refusal.WriteRefusal.{WriteRefusal}
 use Rattle.proof_writer.specs.declared.refusal.WriteRefusal.TheVariants.{OutOfBudget, NoRoom}
@@ -242,14 +242,14 @@ plays_on 𝓢 m claim l k s before from after to r pos w f le =
     (walked 𝓢 m claim (k ∷ l) (record { at = s.at; left = s.left - 1 }) before from after to r w f (omega arith))
 
 -- the game is as it was
-pub plays_restored : {S G : Type 0} (𝓢 : StoreMeaning S) (means : G → Meaning) (line : G → Line) (g h : G) → Restored means line g h →
+pub plays_kept : {S G : Type 0} (𝓢 : StoreMeaning S) (means : G → Meaning) (line : G → Line) (g h : G) → Kept means line g h →
     (claim : Claim) (k : ℕ) (s : State) (before : List ℕ) (from : S) (after : List ℕ) (to : S) (r : Result State WriteRefusal) →
     Plays 𝓢 (means h) claim (line h) k s before from after to r → Plays 𝓢 (means g) claim (line g) k s before from after to r
-plays_restored 𝓢 means line g h restored claim k s before from after to r one =
-    subst₂ (λ (m : Meaning) (l : Line). Plays 𝓢 m claim l k s before from after to r) restored.same restored.back one
+plays_kept 𝓢 means line g h kept claim k s before from after to r one =
+    subst₂ (λ (m : Meaning) (l : Line). Plays 𝓢 m claim l k s before from after to r) kept.same kept.back one
 
-pub owns_restored : {S G : Type 0} (𝓢 : StoreMeaning S) (means : G → Meaning) (line : G → Line) (g h : G) → Restored means line g h →
+pub owns_kept : {S G : Type 0} (𝓢 : StoreMeaning S) (means : G → Meaning) (line : G → Line) (g h : G) → Kept means line g h →
     (claim : Claim) (k : ℕ) (s : State) (before : List ℕ) (from : S) (after : List ℕ) (to : S) (r : Result State WriteRefusal) →
     Owns 𝓢 (means h) claim (line h) k s before from after to r → Owns 𝓢 (means g) claim (line g) k s before from after to r
-owns_restored 𝓢 means line g h restored claim k s before from after to r one =
-    subst₂ (λ (m : Meaning) (l : Line). Owns 𝓢 m claim l k s before from after to r) restored.same restored.back one
+owns_kept 𝓢 means line g h kept claim k s before from after to r one =
+    subst₂ (λ (m : Meaning) (l : Line). Owns 𝓢 m claim l k s before from after to r) kept.same kept.back one

@@ -3,8 +3,8 @@ use Rattle.std.specs.Prelude.{◌≡◌, ℕ, ◌≤◌, List, ◌∷◌, length
 use Rattle.game.specs.Meaning.{Line, Meaning}
 use Rattle.store.specs.Interface.{StoreMeaning}
 use Rattle.search_method.specs.Tree.{Runs}
-use Rattle.proof_method.specs.declared.claim.Claim.{Claim}
-use Rattle.proof_method.specs.declared.claim.State.{State}
+use Rattle.search_method.specs.declared.claim.Claim.{Claim}
+use Rattle.proof_method.specs.declared.state.State.{State}
 use Rattle.proof_method.specs.Strategy.{bit}
 use Rattle.proof_method.specs.Write.{Put, put, failed, Part, played, each, own, solved, at_line, number, walk, first, start, Written, proof, unwritten, buffer}
 use Rattle.proof_writer.specs.declared.refusal.WriteRefusal.{WriteRefusal}

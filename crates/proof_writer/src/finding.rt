@@ -3,12 +3,13 @@ ghost use Rattle.std.specs.Prelude.{◌≤◌, length};
 ghost use Rattle.search.specs.Solve.{count_of};
 ghost use Rattle.search_method.specs.Tree.{Runs};
 ghost use Rattle.search_method.specs.Search.{solve as solve_of};
-ghost use Rattle.proof_method.specs.Restored.{Restored};
+ghost use Rattle.game.specs.Kept.{Kept};
 
 use game::interface::Bounded;
 use search::memory::LineRecord;
 use search::solve::solve;
 use search_method::kinds::{Answer, Pair};
+use search_method::memory::WorkMemory;
 use store::interface::Store;
 
 pub(crate) fn find<G: Bounded, S: Store>(
@@ -23,9 +24,10 @@ pub(crate) fn find<G: Bounded, S: Store>(
     requires memory { (97 ≤ length lines.old) × (6_208 ≤ length moves.old) }
     ensures runs { Runs S.Store.store (solve_of (G.Game.means game.old) (G.Game.line game.old) floor budget) store.old store.new result }
     ensures counted { count_of result ≤ budget }
-    ensures restored { Restored G.Game.means G.Game.line game.old game.new }
+    ensures kept { Kept G.Game.means G.Game.line game.old game.new }
 {
-    match solve(game, store, floor as u32, budget, lines, moves) {
+    let mut memory = WorkMemory { lines, moves };
+    match solve(game, store, floor as u32, budget, &mut memory) {
         Ok(answer) => answer,
         Err(_) => Answer::OutOfBudget { count: budget },
     }

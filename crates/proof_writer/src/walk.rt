@@ -1,6 +1,6 @@
 // The walk that puts the moves of the claiming side.
 ghost use Rattle.std.specs.Prelude.{◌≡◌, ◌<◌, ◌≤◌, length, None};
-ghost use Rattle.proof_method.specs.Restored.{Restored};
+ghost use Rattle.game.specs.Kept.{Kept};
 ghost use Rattle.proof_method.specs.Strategy.{bit};
 ghost use Rattle.proof_writer.specs.Writing.{Framed, Walks, Plays, Owns, PlaysAll, Solves, Follows, Starts};
 
@@ -8,8 +8,9 @@ use crate::finding::find;
 use crate::refusal::WriteRefusal;
 use codec::put_number;
 use game::interface::Bounded;
-use proof_method::claim::{Claim, State};
+use proof_method::state::State;
 use search::memory::LineRecord;
+use search_method::claim::Claim;
 use search_method::kinds::{Answer, Pair};
 use store::interface::Store;
 
@@ -31,7 +32,7 @@ fn step<G: Bounded, S: Store>(
     requires inside { state.at ≤ length out.old }
     ensures is { Plays S.Store.store (G.Game.means game.old) claim (G.Game.line game.old) k state out.old store.old out.new store.new result }
     ensures framed { Framed state out.old out.new result }
-    ensures restored { Restored G.Game.means G.Game.line game.old game.new }
+    ensures kept { Kept G.Game.means G.Game.line game.old game.new }
 {
     if state.left == 0 {
         return Err(WriteRefusal::OutOfBudget);
@@ -71,7 +72,7 @@ fn own<G: Bounded, S: Store>(
     requires inside { state.at ≤ length out.old }
     ensures is { Owns S.Store.store (G.Game.means game.old) claim (G.Game.line game.old) k state out.old store.old out.new store.new result }
     ensures framed { Framed state out.old out.new result }
-    ensures restored { Restored G.Game.means G.Game.line game.old game.new }
+    ensures kept { Kept G.Game.means G.Game.line game.old game.new }
 {
     if k >= game.moves() {
         return Err(WriteRefusal::OutOfBudget);
@@ -110,7 +111,7 @@ fn own_turn<G: Bounded, S: Store>(
     requires inside { state.at ≤ length out.old }
     ensures is { Solves S.Store.store (G.Game.means game.old) claim (G.Game.line game.old) state out.old store.old out.new store.new result }
     ensures framed { Framed state out.old out.new result }
-    ensures restored { Restored G.Game.means G.Game.line game.old game.new }
+    ensures kept { Kept G.Game.means G.Game.line game.old game.new }
 {
     match find(game, store, claim.floor, state.left, lines, moves) {
         Answer::OutOfBudget { .. } => Err(WriteRefusal::OutOfBudget),
@@ -148,7 +149,7 @@ fn all_moves<G: Bounded, S: Store>(
     requires inside { start.at ≤ length out.old }
     ensures is { PlaysAll S.Store.store (G.Game.means game.old) claim (G.Game.line game.old) start out.old store.old out.new store.new result }
     ensures framed { Framed start out.old out.new result }
-    ensures restored { Restored G.Game.means G.Game.line game.old game.new }
+    ensures kept { Kept G.Game.means G.Game.line game.old game.new }
 {
     let mut state = start;
     for k in 0..count {
@@ -174,7 +175,7 @@ fn walk<G: Bounded, S: Store>(
     requires inside { state.at ≤ length out.old }
     ensures is { Walks S.Store.store (G.Game.means game.old) claim (G.Game.line game.old) known state out.old store.old out.new store.new result }
     ensures framed { Framed state out.old out.new result }
-    ensures restored { Restored G.Game.means G.Game.line game.old game.new }
+    ensures kept { Kept G.Game.means G.Game.line game.old game.new }
 {
     if let Some(_) = game.score() {
         return Ok(state);
@@ -212,7 +213,7 @@ fn put_verdict<G: Bounded, S: Store>(
     requires inside { state.at ≤ length out.old }
     ensures is { Follows S.Store.store (G.Game.means game.old) claim (G.Game.line game.old) best state out.old store.old out.new store.new result }
     ensures framed { Framed state out.old out.new result }
-    ensures restored { Restored G.Game.means G.Game.line game.old game.new }
+    ensures kept { Kept G.Game.means G.Game.line game.old game.new }
 {
     match put_number(out, state.at, verdict_number(claim.yes)) {
         None => Err(WriteRefusal::NoRoom),
@@ -248,7 +249,7 @@ pub(crate) fn put_file<G: Bounded, S: Store>(
     requires inside { state.at ≤ length out.old }
     ensures is { Starts S.Store.store (G.Game.means game.old) claim (G.Game.line game.old) best state out.old store.old out.new store.new result }
     ensures framed { Framed state out.old out.new result }
-    ensures restored { Restored G.Game.means G.Game.line game.old game.new }
+    ensures kept { Kept G.Game.means G.Game.line game.old game.new }
 {
     match put_number(out, state.at, claim.floor as u32) {
         None => Err(WriteRefusal::NoRoom),

@@ -1,7 +1,7 @@
 // Writing a proof file.
 ghost use Rattle.std.specs.Prelude.{◌≡◌, ◌≤◌, length};
 ghost use Rattle.search_method.specs.Tree.{Runs};
-ghost use Rattle.proof_method.specs.Restored.{Restored};
+ghost use Rattle.game.specs.Kept.{Kept};
 ghost use Rattle.proof_method.specs.Write.{write as write_of, write_in, buffer};
 ghost use Rattle.proof_writer.specs.Writing.{written_by, Fits, Past};
 
@@ -9,8 +9,9 @@ use crate::finding::find;
 use crate::refusal::WriteRefusal;
 use crate::walk::put_file;
 use game::interface::Bounded;
-use proof_method::claim::{Claim, State};
-use search::memory::LineRecord;
+use proof_method::state::State;
+use search::memory::{LineRecord, SearchMemory};
+use search_method::claim::Claim;
 use search_method::kinds::{Answer, Pair};
 use store::interface::Store;
 
@@ -36,7 +37,7 @@ fn put_proof<G: Bounded, S: Store>(
     requires memory { (97 ≤ length lines.old) × (6_208 ≤ length moves.old) }
     ensures is { Runs S.Store.store (write_of (G.Game.means game.old) (G.Game.line game.old) floor budget (length out.old)) store.old store.new (written_by out.new result) }
     ensures past { Past out.old out.new result }
-    ensures restored { Restored G.Game.means G.Game.line game.old game.new }
+    ensures kept { Kept G.Game.means G.Game.line game.old game.new }
 {
     match find(game, store, floor, budget, lines, moves) {
         Answer::OutOfBudget { .. } => Err(WriteRefusal::OutOfBudget),
@@ -70,22 +71,31 @@ pub fn write<G: Bounded, S: Store>(
     store: &mut S,
     floor: u32,
     budget: u32,
-    lines: &mut [LineRecord],
-    moves: &mut [Pair],
+    memory: &mut SearchMemory<'_>,
     out: &mut [u8],
 ) -> Result<Written, WriteRefusal>
-    ensures is { Runs S.Store.store (write_in (length lines.old) (length moves.old) (G.Game.means game.old) (G.Game.line game.old) floor budget (length out.old)) store.old store.new (written_by out.new result) }
+    ensures is { Runs S.Store.store (write_in (length memory.old.lines.now) (length memory.old.moves.now) (G.Game.means game.old) (G.Game.line game.old) floor budget (length out.old)) store.old store.new (written_by out.new result) }
     ensures buffer { out.new ≡ buffer out.old (written_by out.new result) }
     ensures fits { Fits out.new result }
-    ensures restored { Restored G.Game.means G.Game.line game.old game.new }
+    ensures lines { length memory.new.lines.now ≡ length memory.old.lines.now }
+    ensures moves { length memory.new.moves.now ≡ length memory.old.moves.now }
+    ensures kept { Kept G.Game.means G.Game.line game.old game.new }
 {
     if floor == 0 || floor > 2 {
         return Err(WriteRefusal::Floor);
     }
-    if lines.len() < 97 || moves.len() < 6_208 {
+    if !memory.suffices() {
         return Err(WriteRefusal::Memory);
     }
-    match put_proof(game, store, lines, moves, out, floor as u8, budget) {
+    match put_proof(
+        game,
+        store,
+        memory.lines,
+        memory.moves,
+        out,
+        floor as u8,
+        budget,
+    ) {
         Ok(written) => Ok(written),
         Err(refusal) => {
             out.fill(0);

@@ -1,14 +1,13 @@
 -- Parts of the search, one after another, and the plays and moves between them.
-use Rattle.std.proofs.Common.{◌≡◌, ℕ, zero, suc, ◌-◌, ◌<◌, cond, eqb, ◌∷◌, is_some, Some, None, Option, refl, ap, ◌∙◌, arith}
+use Rattle.std.proofs.Common.{◌≡◌, ℕ, zero, suc, ◌-◌, ◌<◌, cond, eqb, is_some, Some, None, Option, refl, ap, arith}
 use Rattle.std.proofs.lemmas.Bool.Decides.{nat_tests}
 use Rattle.game.specs.Meaning.{Line, Meaning}
 use Rattle.game.specs.Laws.{Bounded, Room}
-use Rattle.game.specs.Refusals.{shorter}
 use Rattle.game.proofs.Bounds.{room_under}
 use Rattle.store.specs.Interface.{StoreMeaning}
 use Rattle.search_method.specs.Search.{exhausted, got, Part, next, ◌>>=◌, played, height_of, moves_left}
 use Rattle.search_method.proofs.Runs.{runs_bind}
-use Rattle.search.specs.Does.{came, Does, Kept}
+use Rattle.search.specs.Does.{came, Does}
 
 -- with a play left, what follows it is done with one less
 pub play_more : {A : Type 0} (x : Part A) (left : ℕ) → 0 < left → played x left ≡ x (left - 1)
@@ -22,18 +21,6 @@ could_play left h = grind (arith, nat_tests)
 -- none was counted, so none was left
 pub could_not : (left : ℕ) → None ≡ cond (eqb left 0) None (Some (tt {0})) → left ≡ 0
 could_not left h = grind (arith, nat_tests)
-
-pub kept_same : {G : Type 0} (means : G → Meaning) (line : G → Line) (g : G) → Kept means line g g
-kept_same means line g = record { same = refl; back = refl }
-
-pub kept_trans : {G : Type 0} {means : G → Meaning} {line : G → Line} {f g h : G} → Kept means line f g → Kept means line g h → Kept means line f h
-kept_trans p q = record { same = q.same ∙ p.same; back = q.back ∙ p.back }
-
--- a move is played, something is done there that keeps the game, and the move is taken back
-pub visited : {G : Type 0} {means : G → Meaning} {line : G → Line} {a b c d : G} {k : ℕ}
-    → means b ≡ means a → line b ≡ k ∷ line a → Kept means line b c → means d ≡ means c → line d ≡ shorter (line c) → Kept means line a d
-visited same goes kept back_same back_goes =
-    record { same = back_same ∙ kept.same ∙ same; back = back_goes ∙ ap shorter (kept.back ∙ goes) }
 
 -- where a line of a bounded game goes on, moves are left
 pub moves_left_lem : (m : Meaning) (l : Line) → Bounded m → Room m l → (m.view l).score ≡ None → 0 < moves_left m l

@@ -16,7 +16,8 @@ use Rattle.search_method.specs.Pairs.{pns, dns, first, best_move, pair_of, choic
 use Rattle.search_method.specs.Search.{Out, exhausted, got, Part, ◌>>=◌, either, played, entry, line_pair, outcome, evaluate, leave, resume, turns, expand, answer, no_limits, moves_left, solve_by, solve}
 use Rattle.search_method.proofs.Runs.{runs_bind}
 use Rattle.search.specs.declared.memory.LineRecord.{LineRecord}
-use Rattle.search.specs.Does.{came, Does, Kept}
+use Rattle.game.specs.Kept.{Kept}
+use Rattle.search.specs.Does.{came, Does}
 use Rattle.search.specs.Numbers.{mine, finding_of, Costs}
 use Rattle.search.specs.Lines.{record_of}
 use Rattle.search.proofs.Doing.{does_then, does_exhausted, play_more, could_play}

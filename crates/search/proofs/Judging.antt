@@ -14,7 +14,8 @@ use Rattle.search_method.specs.Pairs.{settled}
 use Rattle.search_method.specs.Search.{Out, Part, give, ◌>>=◌, either, played, each, key, judged, simulate, confirm, appraise_by, appraise, judge, evaluate, moves_left}
 use Rattle.search.specs.declared.evaluation.Weight.{Weight}
 use Rattle.search.specs.declared.evaluation.Weight.TheVariants.{Given, Check}
-use Rattle.search.specs.Does.{came, Does, Kept}
+use Rattle.game.specs.Kept.{Kept}
+use Rattle.search.specs.Does.{came, Does}
 use Rattle.search.specs.Steps.{weight_by, weigh, believed, confirmed}
 use Rattle.search.proofs.Doing.{does_then, does_exhausted, play_more, could_play}
 

@@ -4,4 +4,3 @@ pub mod Trying
 pub mod Judging
 pub mod Smalls
 pub mod Expanding
-pub mod Solving

@@ -13,7 +13,8 @@ use Rattle.store.specs.declared.entry.Finding.TheVariants.{Verdict, Open}
 use Rattle.search_method.specs.Search.{Part, give, either, played, every, decide, settles, claim_by, by_entry, holds_at, simulate, moves_left}
 use Rattle.search.specs.declared.simulation.Step.{Step}
 use Rattle.search.specs.declared.simulation.Step.TheVariants.{Stop, One, All}
-use Rattle.search.specs.Does.{Does, Kept}
+use Rattle.game.specs.Kept.{Kept}
+use Rattle.search.specs.Does.{Does}
 use Rattle.search.specs.Steps.{step_without, step_by, step_of, take, onward}
 use Rattle.search.proofs.Doing.{does_then, does_exhausted, play_more, could_play}
 

@@ -1,7 +1,6 @@
--- What the code does of a part of the search: the plays left before and after, the store before and after, and a game
--- that is left at its line.
-use Rattle.std.specs.Prelude.{◌≡◌, ℕ, List, Some, None, Option}
-use Rattle.game.specs.Meaning.{Line, Meaning}
+-- What the code does of a part of the search: the plays left before and after, and the store before and
+-- after.
+use Rattle.std.specs.Prelude.{ℕ, List, Some, None, Option}
 use Rattle.store.specs.Interface.{StoreMeaning}
 use Rattle.search_method.specs.Tree.{Runs}
 use Rattle.search_method.specs.Search.{Out, exhausted, got, Part}
@@ -14,11 +13,6 @@ came (Some x) after = got x after
 -- a store makes of the part x, from so many plays left, the answer r with so many left
 abbrev pub Does : {S A : Type 0} → StoreMeaning S → Part A → S → S → ℕ → Option A → ℕ → Type 0
 Does 𝓢 x s t before r after = Runs 𝓢 (x before) s t (came r after)
-
--- a game of the meaning and at the line that it had before
-pub record Kept {G : Type 0} (means : G → Meaning) (line : G → Line) (before after : G) : Type 0 where
-  pub same : means after ≡ means before
-  pub back : line after ≡ line before
 
 -- what a completed loop has put into memory
 abbrev pub filled : {A : Type 0} → Option (Unit {0}) → List A → Option (List A)

@@ -1,7 +1,8 @@
 // The initial evaluation of a line: each move is played, judged and taken back.
 ghost use Rattle.std.specs.Prelude.{◌≡◌, ℕ, ◌-◌, ◌<◌, ◌≤◌, ◌∷◌, length, None};
 ghost use Rattle.search_method.specs.Search.{played, judge, evaluate as evaluated, moves_left};
-ghost use Rattle.search.specs.Does.{Does, Kept, filled};
+ghost use Rattle.game.specs.Kept.{Kept};
+ghost use Rattle.search.specs.Does.{Does, filled};
 ghost use Rattle.search.specs.Steps.{weigh as weighed, believed, confirmed};
 
 use crate::budget::Budget;

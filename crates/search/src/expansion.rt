@@ -1,7 +1,8 @@
 // The expansion of a line: its most promising move is expanded, turn after turn, until a limit is reached.
 ghost use Rattle.std.specs.Prelude.{◌≡◌, ℕ, ◌+◌, ◌-◌, ◌*◌, ◌<◌, ◌≤◌, ◌∷◌, length};
 ghost use Rattle.search_method.specs.Search.{played, turns, expand as expanded, moves_left};
-ghost use Rattle.search.specs.Does.{Does, Kept};
+ghost use Rattle.game.specs.Kept.{Kept};
+ghost use Rattle.search.specs.Does.{Does};
 ghost use Rattle.search.specs.Numbers.{Small, AllSmall, SmallAnswer, Costs};
 ghost use Rattle.search.specs.Lines.{record_of};
 

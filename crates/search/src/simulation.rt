@@ -3,7 +3,8 @@ ghost use Rattle.std.specs.Prelude.{◌≡◌, ℕ, ◌<◌, ◌≤◌, ◌∷�
 ghost use Rattle.std.specs.Bool.{beq};
 ghost use Rattle.game.specs.Kinds.{points};
 ghost use Rattle.search_method.specs.Search.{played, every, holds_at, simulate as simulated, moves_left};
-ghost use Rattle.search.specs.Does.{Does, Kept};
+ghost use Rattle.game.specs.Kept.{Kept};
+ghost use Rattle.search.specs.Does.{Does};
 ghost use Rattle.search.specs.Steps.{step_of, onward};
 
 use crate::budget::Budget;

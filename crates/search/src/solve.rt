@@ -5,31 +5,27 @@ ghost use Rattle.search_method.specs.Bound.{BudgetEnough};
 ghost use Rattle.search_method.specs.Truth.{VerdictsTrue};
 ghost use Rattle.search_method.specs.Tree.{Runs};
 ghost use Rattle.search_method.specs.Search.{answer, solve as solved};
-ghost use Rattle.search.specs.Does.{came, Kept};
+ghost use Rattle.game.specs.Kept.{Kept};
+ghost use Rattle.search.specs.Does.{came};
 ghost use Rattle.search.specs.Solve.{Answers, Within, Admitted, count_of};
 
 use crate::budget::Budget;
 use crate::expansion::expand;
-use crate::memory::LineRecord;
+use crate::memory::SearchMemory;
 use crate::pairs::INF;
 use game::interface::Bounded;
 use search_method::kinds::{Answer, Pair, SolveRefusal, Worked};
 use store::entry::Finding;
 use store::interface::Store;
 
-// A record for each of the 97 lines of a game of at most 96 moves, and one for each of the 64 moves at each of them.
-const LINES: usize = 97;
-
-const MOVES: usize = 6208;
-
 // The floor that is asked for, where that is one and there is memory enough.
-fn admit(floor: u32, lines: usize, moves: usize) -> Result<u8, SolveRefusal>
-    ensures { Admitted floor lines moves result }
+fn admit(floor: u32, memory: &SearchMemory<'_>) -> Result<u8, SolveRefusal>
+    ensures { Admitted floor (length memory.now.lines.now) (length memory.now.moves.now) result }
 {
     if floor != 1 && floor != 2 {
         return Err(SolveRefusal::Floor);
     }
-    if lines < LINES || moves < MOVES {
+    if !memory.suffices() {
         return Err(SolveRefusal::Memory);
     }
     Ok(floor as u8)
@@ -56,13 +52,14 @@ fn run<G: Bounded, S: Store>(
     store: &mut S,
     floor: u8,
     budget: u32,
-    lines: &mut [LineRecord],
-    moves: &mut [Pair],
+    memory: &mut SearchMemory<'_>,
 ) -> Answer
-    requires records { 97 ≤ length lines.old }
-    requires room { 6208 ≤ length moves.old }
+    requires records { 97 ≤ length memory.old.lines.now }
+    requires room { 6208 ≤ length memory.old.moves.now }
     ensures runs { Runs S.Store.store (solved (G.Game.means game.old) (G.Game.line game.old) floor budget) store.old store.new result }
     ensures within { count_of result ≤ budget }
+    ensures lines { length memory.new.lines.now ≡ length memory.old.lines.now }
+    ensures moves { length memory.new.moves.now ≡ length memory.old.moves.now }
     ensures kept { Kept G.Game.means G.Game.line game.old game.new }
 {
     if let Some(score) = game.score() {
@@ -74,7 +71,15 @@ fn run<G: Bounded, S: Store>(
     }
     let mut plays = Budget { left: budget };
     let limit = Pair { pn: INF, dn: INF };
-    let found = expand(game, store, floor, limit, lines, moves, &mut plays);
+    let found = expand(
+        game,
+        store,
+        floor,
+        limit,
+        memory.lines,
+        memory.moves,
+        &mut plays,
+    );
     answer_of(budget, plays.left, found)
 }
 
@@ -86,17 +91,16 @@ pub fn solve<G: Bounded, S: Store>(
     store: &mut S,
     floor: u32,
     budget: u32,
-    lines: &mut [LineRecord],
-    moves: &mut [Pair],
+    memory: &mut SearchMemory<'_>,
 ) -> Result<Answer, SolveRefusal>
-    ensures answers { Answers S.Store.store (solved (G.Game.means game.old) (G.Game.line game.old) floor budget) (refusal_due floor (length lines.old) (length moves.old)) store.old store.new result }
+    ensures answers { Answers S.Store.store (solved (G.Game.means game.old) (G.Game.line game.old) floor budget) (refusal_due floor (length memory.old.lines.now) (length memory.old.moves.now)) store.old store.new result }
     ensures within { Within budget result }
+    ensures lines { length memory.new.lines.now ≡ length memory.old.lines.now }
+    ensures moves { length memory.new.moves.now ≡ length memory.old.moves.now }
     ensures kept { Kept G.Game.means G.Game.line game.old game.new }
     ensures sound { VerdictsTrue S.Store.store }
     ensures enough { BudgetEnough }
 {
-    match admit(floor, lines.len(), moves.len()) {
-        Ok(floor) => Ok(run(game, store, floor, budget, lines, moves)),
-        Err(refusal) => Err(refusal),
-    }
+    let floor = admit(floor, memory)?;
+    Ok(run(game, store, floor, budget, memory))
 }

@@ -1,5 +1,6 @@
 pub mod Kinds
 pub mod Refusals
+pub mod Claims
 pub mod Tree
 pub mod Pairs
 pub mod Search

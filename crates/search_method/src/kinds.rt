@@ -28,17 +28,14 @@ pub enum Answer {
 // Why a search was refused: the floor is not 1 or 2, or there is too little work memory.
 #[derive(Clone, Copy, PartialEq, Eq, Debug)]
 pub enum SolveRefusal {
-    Floor,
-    Memory,
+    Floor = 5,
+    Memory = 6,
 }
 
 impl SolveRefusal {
     pub fn number(self) -> u8
         ensures { result ≡ refusal_number self }
     {
-        match self {
-            SolveRefusal::Floor => 5,
-            SolveRefusal::Memory => 6,
-        }
+        self as u8
     }
 }

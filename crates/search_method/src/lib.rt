@@ -6,9 +6,11 @@
 // moves, the expansion of a line, and `solve`. Then what is proved of it: `Truth`, every verdict is that of the
 // value; `Bound`, a budget that is never used up. `Refusals` says which calls are refused before anything is done.
 //
-// The types that code and definition share are `Pair`, `Worked`, `Answer` and `SolveRefusal`, with
-// `SolveRefusal::number`. The other functions carry the theorems: `verdicts_are_true`, `budget_is_enough`, `worked_bounds`.
+// The types that code and definition share are `Pair`, `Worked`, `Answer`, `SolveRefusal` and `Claim`, each with what is
+// asked of it; `WorkMemory` is what a caller lends. The other functions carry the theorems: `verdicts_are_true`, `budget_is_enough`, `worked_bounds`.
 #![tactic(auto)]
 
+pub mod claim;
 pub mod kinds;
+pub mod memory;
 pub mod theorems;

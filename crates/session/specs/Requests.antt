@@ -19,8 +19,8 @@ pub record Desk : Type 0 where
 abbrev pub desk : List ℕ → ℕ → Desk
 desk bytes written = record { bytes = bytes; written = written }
 
-abbrev pub memory : ℕ → ℕ → Memory
-memory lines moves = record { lines = lines; moves = moves }
+abbrev pub room : ℕ → ℕ → Memory
+room lines moves = record { lines = lines; moves = moves }
 
 -- the call that a request makes, with what is lent to it
 abbrev pub call_of : Memory → Desk → Request → Call

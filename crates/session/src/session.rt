@@ -16,9 +16,9 @@ use proof_file::check::{CheckedProof, check};
 use proof_file::fault::Fault;
 use proof_writer::refusal::WriteRefusal;
 use proof_writer::write::{Written, write};
-use search::memory::LineRecord;
+use search::memory::SearchMemory;
 use search::solve::solve;
-use search_method::kinds::{Answer, Pair, SolveRefusal};
+use search_method::kinds::{Answer, SolveRefusal};
 use store::interface::Store;
 
 pub struct Session<G, S> {
@@ -78,15 +78,14 @@ impl<G: Bounded, S: Store> Session<G, S> {
         &mut self,
         floor: u32,
         budget: u32,
-        lines: &mut [LineRecord],
-        moves: &mut [Pair],
+        memory: &mut SearchMemory<'_>,
     ) -> Result<Answer, SolveRefusal>
-        ensures answers { Answers S.Store.store (solving (G.Game.means self.old.game) (G.Game.line self.old.game) floor budget) (refusal_due floor (length lines.old) (length moves.old)) self.old.store self.new.store result }
+        ensures answers { Answers S.Store.store (solving (G.Game.means self.old.game) (G.Game.line self.old.game) floor budget) (refusal_due floor (length memory.old.lines.now) (length memory.old.moves.now)) self.old.store self.new.store result }
         ensures within { Within budget result }
         ensures same { G.Game.means self.new.game ≡ G.Game.means self.old.game }
         ensures back { G.Game.line self.new.game ≡ G.Game.line self.old.game }
     {
-        solve(&mut self.game, &mut self.store, floor, budget, lines, moves)
+        solve(&mut self.game, &mut self.store, floor, budget, memory)
     }
 
     // Writes a proof of the present line's verdict for a floor into the buffer; the line stays.
@@ -94,25 +93,16 @@ impl<G: Bounded, S: Store> Session<G, S> {
         &mut self,
         floor: u32,
         budget: u32,
-        lines: &mut [LineRecord],
-        moves: &mut [Pair],
+        memory: &mut SearchMemory<'_>,
         out: &mut [u8],
     ) -> Result<Written, WriteRefusal>
-        ensures is { Runs S.Store.store (write_in (length lines.old) (length moves.old) (G.Game.means self.old.game) (G.Game.line self.old.game) floor budget (length out.old)) self.old.store self.new.store (written_by out.new result) }
+        ensures is { Runs S.Store.store (write_in (length memory.old.lines.now) (length memory.old.moves.now) (G.Game.means self.old.game) (G.Game.line self.old.game) floor budget (length out.old)) self.old.store self.new.store (written_by out.new result) }
         ensures buffer { out.new ≡ buffer out.old (written_by out.new result) }
         ensures fits { Fits out.new result }
         ensures same { G.Game.means self.new.game ≡ G.Game.means self.old.game }
         ensures back { G.Game.line self.new.game ≡ G.Game.line self.old.game }
     {
-        write(
-            &mut self.game,
-            &mut self.store,
-            floor,
-            budget,
-            lines,
-            moves,
-            out,
-        )
+        write(&mut self.game, &mut self.store, floor, budget, memory, out)
     }
 
     // Checks a proof file at the present line; the line and the store stay.
@@ -120,16 +110,15 @@ impl<G: Bounded, S: Store> Session<G, S> {
         &mut self,
         proof: &[u8],
         budget: u32,
-        lines: &mut [LineRecord],
-        moves: &mut [Pair],
+        memory: &mut SearchMemory<'_>,
     ) -> Result<CheckedProof, Fault>
-        ensures is { checked_by result ≡ check_in (length lines.old) (length moves.old) (G.Game.means self.old.game) (G.Game.line self.old.game) proof.now budget }
+        ensures is { checked_by result ≡ check_in (length memory.old.lines.now) (length memory.old.moves.now) (G.Game.means self.old.game) (G.Game.line self.old.game) proof.now budget }
         ensures same { G.Game.means self.new.game ≡ G.Game.means self.old.game }
         ensures back { G.Game.line self.new.game ≡ G.Game.line self.old.game }
         ensures store { self.new.store ≡ self.old.store }
-        ensures lines { lines.new ≡ lines.old }
-        ensures moves { moves.new ≡ moves.old }
+        ensures lines { memory.new.lines.now ≡ memory.old.lines.now }
+        ensures moves { memory.new.moves.now ≡ memory.old.moves.now }
     {
-        check(&mut self.game, proof, budget, lines, moves)
+        check(&mut self.game, proof, budget, memory)
     }
 }

@@ -1,5 +1,5 @@
 use Rattle.std.proofs.Common.{◌+◌, ◌*◌}
-use Rattle.proof_method.specs.Restored.{Restored}
+use Rattle.game.specs.Kept.{Kept}
 use Rattle.proof_file.proofs.Walking.{Through}
 use Rattle.proof_file.proofs.check.+all_moves_descend_walk.Given as goal
 
@@ -14,5 +14,5 @@ decreases-descend g l = 3 * l.state.left
 
 abbrev pub invariant-all_moves-loop-k : goal.invariant-all_moves-loop-k
 invariant-all_moves-loop-k g l =
-    Restored g.G.Game.means g.G.Game.line l.initial.game l.game
+    Kept g.G.Game.means g.G.Game.line l.initial.game l.game
     × Through (g.G.Game.means l.initial.game) l.proof l.claim (g.G.Game.line l.initial.game) l.depth l.initial.state l.k l.state

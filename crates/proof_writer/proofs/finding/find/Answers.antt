@@ -13,7 +13,7 @@ returns-in-Ok g c =
           (none_due c.args.floor (length c.args.lines.now) (length c.args.moves.now) c.requires.floor.0 c.requires.floor.1 c.requires.memory.0 c.requires.memory.1)
           c.in-Ok.ensures.answers;
       counted = c.in-Ok.ensures.within;
-      restored = record { same = c.solve.ensures.kept.same; back = c.solve.ensures.kept.back };
+      kept = record { same = c.solve.ensures.kept.same; back = c.solve.ensures.kept.back };
     }
 
 pub returns-in-Err : goal.returns-in-Err

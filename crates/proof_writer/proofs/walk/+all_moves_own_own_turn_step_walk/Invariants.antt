@@ -1,5 +1,5 @@
 use Rattle.std.proofs.Common.{◌≡◌, ◌+◌, ◌*◌, length}
-use Rattle.proof_method.specs.Restored.{Restored}
+use Rattle.game.specs.Kept.{Kept}
 use Rattle.proof_writer.proofs.Steps.{Begun}
 use Rattle.proof_writer.proofs.walk.+all_moves_own_own_turn_step_walk.Given as goal
 
@@ -20,7 +20,7 @@ decreases-step g l = 4 * l.state.left
 
 abbrev pub invariant-all_moves-loop-k : goal.invariant-all_moves-loop-k
 invariant-all_moves-loop-k g l =
-    Restored g.G.Game.means g.G.Game.line l.initial.game l.game
+    Kept g.G.Game.means g.G.Game.line l.initial.game l.game
     × Begun g.S.Store.store (g.G.Game.means l.initial.game) l.claim (g.G.Game.line l.initial.game) l.initial.state l.initial.out l.initial.store l.k l.state l.out l.store
     × (length l.lines ≡ length l.initial.lines)
     × (length l.moves ≡ length l.initial.moves)

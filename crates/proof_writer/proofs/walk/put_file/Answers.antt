@@ -12,5 +12,5 @@ returns-in-Some g c =
           c.in-Some.ensures.end c.put_number.ensures.bytes c.put_number.auto.bytes c.put_verdict.ensures.is;
       framed = framed_put c.args.state c.args.out.now c.put_number.new.bytes c.put_verdict.new.out c.args.claim.floor c.in-Some.at
           c.in-Some.ensures.end c.put_number.ensures.bytes c.put_number.auto.bytes c.put_verdict.result c.put_verdict.ensures.framed;
-      restored = c.put_verdict.ensures.restored;
+      kept = c.put_verdict.ensures.kept;
     }

@@ -14,5 +14,5 @@ returns-in-Some g c =
           c.in-Some.ensures.end c.put_number.ensures.bytes c.put_number.auto.bytes c.walk.ensures.is;
       framed = framed_put c.args.state c.args.out.now c.put_number.new.bytes c.walk.new.out c.verdict_number.result c.in-Some.at
           c.in-Some.ensures.end c.put_number.ensures.bytes c.put_number.auto.bytes c.walk.result c.walk.ensures.framed;
-      restored = c.walk.ensures.restored;
+      kept = c.walk.ensures.kept;
     }

@@ -1,5 +1,5 @@
 use Rattle.std.proofs.Common.{take}
-use Rattle.search.specs.Does.{Kept}
+use Rattle.game.specs.Kept.{Kept}
 use Rattle.search.proofs.Judging.{Judging}
 use Rattle.search.proofs.evaluation.evaluate.Given as goal
 

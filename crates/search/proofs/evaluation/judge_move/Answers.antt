@@ -1,5 +1,5 @@
 use Rattle.std.proofs.Common.{arith}
-use Rattle.search.proofs.Doing.{visited}
+use Rattle.game.proofs.Kept.{visited}
 use Rattle.search.proofs.Judging.{judged_move}
 use Rattle.search.proofs.evaluation.judge_move.Goals as goal
 

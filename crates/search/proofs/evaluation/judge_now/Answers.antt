@@ -1,7 +1,7 @@
 use Rattle.std.proofs.Common.{Some, sym, refl, ap, ◌∙◌, arith}
 use Rattle.search.specs.declared.evaluation.Weight.TheVariants.{Given, Check}
 use Rattle.search.specs.Steps.{weigh}
-use Rattle.search.proofs.Doing.{kept_same}
+use Rattle.game.proofs.Kept.{kept_same}
 use Rattle.search.proofs.Judging.{judged_so}
 use Rattle.search.proofs.evaluation.judge_now.Goals as goal
 

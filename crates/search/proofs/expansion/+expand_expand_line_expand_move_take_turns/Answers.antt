@@ -3,7 +3,7 @@ use Rattle.store.specs.declared.entry.Finding.TheVariants.{Open}
 use Rattle.search_method.specs.Pairs.{reached}
 use Rattle.search_method.specs.Search.{height_of, moves_left}
 use Rattle.search.specs.Numbers.{AllSmall}
-use Rattle.search.proofs.Doing.{kept_same, kept_trans}
+use Rattle.game.proofs.Kept.{kept_same, kept_then}
 use Rattle.search.proofs.Smalls.{evaluate_small, all_small_set}
 use Rattle.search.proofs.Expanding.{moved_kept, turning_more, turning_exhausted, turning_left, expand_ends, expand_exhausted, expand_settled, told_kept}
 use Rattle.search.proofs.expansion.+expand_expand_line_expand_move_take_turns.Goals as goal
@@ -43,7 +43,7 @@ expand_line-returns g t c =
           c.requires.going c.evaluate.ensures.kept.same c.evaluate.ensures.kept.back c.in_ok-evaluate.ensures.does c.take_turns.ensures.does;
       less = omega arith;
       small = c.take_turns.ensures.small;
-      kept = kept_trans c.evaluate.ensures.kept c.take_turns.ensures.kept;
+      kept = kept_then c.evaluate.ensures.kept c.take_turns.ensures.kept;
     }
 
 pub take_turns-returns-then-reaches : goal.take_turns-returns-then-reaches
@@ -71,12 +71,12 @@ take_turns-returns-in_default g t c =
           (λ i. record { key = (c.requires.told i).key; finding = Open (c.line_pair-pair.ensures.is i).pn (c.line_pair-pair.ensures.is i).dn });
       small = tt;
       less = omega arith;
-      kept = kept_trans c.turns.invariant.0 c.expand_move.ensures.kept;
+      kept = kept_then c.turns.invariant.0 c.expand_move.ensures.kept;
     }
 
 pub take_turns-turns-preserved : goal.take_turns-turns-preserved
 take_turns-turns-preserved g t c = (
-  kept_trans c.turns.invariant.0 c.expand_move.ensures.kept,
+  kept_then c.turns.invariant.0 c.expand_move.ensures.kept,
   turning_more g.S.Store.store (g.G.Game.means c.args.game.now) c.args.line.now.key.floor (g.G.Game.line c.args.game.now) c.args.line.now.limit c.args.store.now c.args.pairs.now c.args.plays.now.left c.turns.store c.turns.pairs c.turns.plays.left
       c.expand_move.new.store c.args.line.now.black c.choose_move-k.result c.limits_of-next.result c.in-Some.found c.expand_move.new.plays.left
       (λ i. (c.requires.told i).black) (ap (reached c.args.line.now.limit) (sym c.line_pair-pair.ensures.is) ∙ (sym c.reaches.ensures ∙ c.if-reaches.false))

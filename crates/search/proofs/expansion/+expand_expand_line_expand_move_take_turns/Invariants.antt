@@ -1,5 +1,5 @@
 use Rattle.std.proofs.Common.{◌+◌, ◌*◌}
-use Rattle.search.specs.Does.{Kept}
+use Rattle.game.specs.Kept.{Kept}
 use Rattle.search.specs.Numbers.{AllSmall}
 use Rattle.search.proofs.Expanding.{Turning}
 use Rattle.search.proofs.expansion.+expand_expand_line_expand_move_take_turns.Given as goal

@@ -1,7 +1,8 @@
 use Rattle.std.proofs.Common.{Some, None, sym, refl, ◌∙◌, arith}
 use Rattle.search.specs.declared.simulation.Step.TheVariants.{Stop, One, All}
 use Rattle.search.specs.Steps.{step_of}
-use Rattle.search.proofs.Doing.{kept_same, kept_trans, visited, moves_left_lem}
+use Rattle.game.proofs.Kept.{kept_same, kept_then, visited}
+use Rattle.search.proofs.Doing.{moves_left_lem}
 use Rattle.search.proofs.Trying.{simulated, tried, tried_kept, trying_more, trying_fails, trying_exhausted, trying_all}
 use Rattle.search.proofs.simulation.+holds_now_simulate_try_all_try_move.Goals as goal
 
@@ -11,7 +12,7 @@ try_all-returns-in_err-held g t c =
       does = trying_exhausted g.S.Store.store c.args.store.now (g.G.Game.means c.args.game.now) c.args.claim.floor c.args.claim.yes (g.G.Game.line c.args.game.now) c.args.moves c.args.plays.now.left c.loop-k.k c.loop-k.plays.left c.try_move.new.plays.left c.loop-k-test.true c.loop-k.invariant.1
           (tried_kept g.S.Store.store g.G.Game.means g.G.Game.line c.args.game.now c.loop-k.game c.loop-k.invariant.0 c.args.store.now c.args.claim.floor c.args.claim.yes c.loop-k.k c.loop-k.plays.left None c.try_move.new.plays.left c.in_err-held.ensures.does);
       less = omega arith;
-      kept = kept_trans c.loop-k.invariant.0 c.try_move.ensures.kept;
+      kept = kept_then c.loop-k.invariant.0 c.try_move.ensures.kept;
     })
 
 pub try_all-returns-then-not-held : goal.try_all-returns-then-not-held
@@ -20,12 +21,12 @@ try_all-returns-then-not-held g t c =
       does = trying_fails g.S.Store.store c.args.store.now (g.G.Game.means c.args.game.now) c.args.claim.floor c.args.claim.yes (g.G.Game.line c.args.game.now) c.args.moves c.args.plays.now.left c.loop-k.k c.loop-k.plays.left c.try_move.new.plays.left c.in_ok-held.held c.loop-k-test.true c.if-not-held.true c.loop-k.invariant.1
           (tried_kept g.S.Store.store g.G.Game.means g.G.Game.line c.args.game.now c.loop-k.game c.loop-k.invariant.0 c.args.store.now c.args.claim.floor c.args.claim.yes c.loop-k.k c.loop-k.plays.left (Some c.in_ok-held.held) c.try_move.new.plays.left c.in_ok-held.ensures.does);
       less = omega arith;
-      kept = kept_trans c.loop-k.invariant.0 c.try_move.ensures.kept;
+      kept = kept_then c.loop-k.invariant.0 c.try_move.ensures.kept;
     }
 
 pub try_all-loop-k-preserved : goal.try_all-loop-k-preserved
 try_all-loop-k-preserved g t c = (
-  kept_trans c.loop-k.invariant.0 c.try_move.ensures.kept,
+  kept_then c.loop-k.invariant.0 c.try_move.ensures.kept,
   trying_more g.S.Store.store c.args.store.now (g.G.Game.means c.args.game.now) c.args.claim.floor c.args.claim.yes (g.G.Game.line c.args.game.now) c.args.moves c.args.plays.now.left c.loop-k.k c.loop-k.plays.left c.try_move.new.plays.left c.in_ok-held.held c.loop-k-test.true c.try_move.ensures.less c.if-not-held.false c.loop-k.invariant.1
       (tried_kept g.S.Store.store g.G.Game.means g.G.Game.line c.args.game.now c.loop-k.game c.loop-k.invariant.0 c.args.store.now c.args.claim.floor c.args.claim.yes c.loop-k.k c.loop-k.plays.left (Some c.in_ok-held.held) c.try_move.new.plays.left c.in_ok-held.ensures.does),
 )

@@ -1,5 +1,5 @@
 use Rattle.std.proofs.Common.{◌+◌, ◌*◌}
-use Rattle.search.specs.Does.{Kept}
+use Rattle.game.specs.Kept.{Kept}
 use Rattle.search.proofs.Trying.{Trying}
 use Rattle.search.proofs.simulation.+holds_now_simulate_try_all_try_move.Given as goal
 

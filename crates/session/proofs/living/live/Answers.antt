@@ -1,7 +1,7 @@
 use Rattle.std.proofs.Common.{◌≡◌, ℕ, ◌<◌, min, [], length, take, sym, refl, ap, ◌∙◌, subst, ap₂, subst₂, arith}
 use Rattle.game.specs.Meaning.{Reachable}
 use Rattle.life.specs.Life.{Life}
-use Rattle.session.specs.Requests.{Tells, desk, memory}
+use Rattle.session.specs.Requests.{Tells, desk, room}
 use Rattle.session.specs.Runs.{Lived}
 use Rattle.session.proofs.Lives.{lived_next, rest_next, rest_from}
 use Rattle.session.proofs.living.live.Goals as goal
@@ -17,15 +17,15 @@ loop-i-preserved g c =
     let now = c.loop-i in
     let asked : now.i < length c.args.requests.now = omega (arith, c.min-n.ensures, c.loop-i-test.true) in
     let room : now.i < length now.replies = omega (arith, c.min-n.ensures, c.loop-i-test.true, now.auto.replies) in
-    let lines : length now.lines ≡ length c.args.lines.now = omega (arith, now.auto.lines) in
-    let moves : length now.moves ≡ length c.args.moves.now = omega (arith, now.auto.moves) in (
+    let lines : length now.memory.lines.now ≡ length c.args.memory.now.lines.now = omega (arith, now.auto.lines) in
+    let moves : length now.memory.moves.now ≡ length c.args.memory.now.moves.now = omega (arith, now.auto.moves) in (
       did.same ∙ inv.0,
       λ start handed life.
           lived_next (m.means c.open-session.result.game) (m.means now.session.game) g.S.Store.store start handed
-          (memory (length c.args.lines.now) (length c.args.moves.now)) (memory (length now.lines) (length now.moves))
+          (room (length c.args.memory.now.lines.now) (length c.args.memory.now.moves.now)) (room (length now.memory.lines.now) (length now.memory.moves.now))
           (desk c.args.bytes.now c.args.written.now) (desk now.bytes now.written) (desk c.make.new.bytes c.make.new.written)
           c.args.requests.now now.replies now.i _ c.make.result (m.line now.session.game) (m.line c.make.new.session.game)
-          now.session.store c.make.new.session.store asked room inv.0 (ap₂ memory lines moves) (inv.1 start handed life) did.step did.leaves,
+          now.session.store c.make.new.session.store asked room inv.0 (ap₂ room lines moves) (inv.1 start handed life) did.step did.leaves,
       rest_next now.replies c.args.replies.now now.i c.make.result inv.2,
     )
 
@@ -44,7 +44,7 @@ returns g c =
       ran = λ reached.
           subst₂
           (λ h (j : ℕ).
-          Lived (m.means h) g.S.Store.store (m.line h) c.args.store (memory (length c.args.lines.now) (length c.args.moves.now))
+          Lived (m.means h) g.S.Store.store (m.line h) c.args.store (room (length c.args.memory.now.lines.now) (length c.args.memory.now.moves.now))
           (desk c.args.bytes.now c.args.written.now) (take j requests) (take j replies) (m.line c.loop-i.session.game) c.loop-i.session.store
           (desk c.loop-i.bytes c.loop-i.written))
           opened.game n

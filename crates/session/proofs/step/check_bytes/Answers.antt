@@ -1,5 +1,5 @@
 use Rattle.std.proofs.Common.{length, refl}
-use Rattle.session.specs.Requests.{memory}
+use Rattle.session.specs.Requests.{room}
 use Rattle.session.proofs.Steps.{checked_step}
 use Rattle.session.proofs.step.check_bytes.Goals as goal
 
@@ -9,7 +9,7 @@ returns-in-Ok g c =
     record {
       same = did.same;
       step = λ b. checked_step _ _ _ _ _ _ did.store c.args.proof.now c.args.budget
-          (memory (length c.args.lines.now) (length c.args.moves.now)) _ did.is did.back;
+          (room (length c.args.memory.now.lines.now) (length c.args.memory.now.moves.now)) _ did.is did.back;
       quiet = λ d. refl;
     }
 
@@ -19,6 +19,6 @@ returns-in-Err g c =
     record {
       same = did.same;
       step = λ b. checked_step _ _ _ _ _ _ did.store c.args.proof.now c.args.budget
-          (memory (length c.args.lines.now) (length c.args.moves.now)) _ did.is did.back;
+          (room (length c.args.memory.now.lines.now) (length c.args.memory.now.moves.now)) _ did.is did.back;
       quiet = λ d. refl;
     }

@@ -1,5 +1,5 @@
 use Rattle.std.proofs.Common.{length, take}
-use Rattle.session.specs.Requests.{memory, answer_of}
+use Rattle.session.specs.Requests.{room, answer_of}
 use Rattle.session.proofs.Steps.{front, check_as}
 use Rattle.session.proofs.step.check_request.Goals as goal
 
@@ -13,7 +13,7 @@ returns g c =
       same = did.same;
       step = λ b.
           check_as (m.means before.game) g.S.Store.store (m.line before.game) (m.line after.game) before.store after.store _
-          (take c.args.count c.args.bytes.now) c.args.budget (memory (length c.args.lines.now) (length c.args.moves.now))
+          (take c.args.count c.args.bytes.now) c.args.budget (room (length c.args.memory.now.lines.now) (length c.args.memory.now.moves.now))
           (answer_of b c.check_bytes.result) (front c.args.bytes.now c.args.count c.min-end.result c.min-end.ensures) (did.step b);
       quiet = did.quiet;
     }

@@ -1,5 +1,5 @@
 use Rattle.std.proofs.Common.{length, refl}
-use Rattle.session.specs.Requests.{memory}
+use Rattle.session.specs.Requests.{room}
 use Rattle.session.proofs.Steps.{written_step}
 use Rattle.session.proofs.step.write_request.Goals as goal
 
@@ -9,7 +9,7 @@ returns-in-Ok g c =
     record {
       same = did.same;
       step = written_step _ _ _ _ _ _ c.args.floor c.args.budget c.args.bytes.now c.write.new.out
-          (memory (length c.args.lines.now) (length c.args.moves.now)) _ did.is did.buffer did.back;
+          (room (length c.args.memory.now.lines.now) (length c.args.memory.now.moves.now)) _ did.is did.buffer did.back;
       leaves = refl;
     }
 
@@ -19,6 +19,6 @@ returns-in-Err g c =
     record {
       same = did.same;
       step = written_step _ _ _ _ _ _ c.args.floor c.args.budget c.args.bytes.now c.write.new.out
-          (memory (length c.args.lines.now) (length c.args.moves.now)) _ did.is did.buffer did.back;
+          (room (length c.args.memory.now.lines.now) (length c.args.memory.now.moves.now)) _ did.is did.buffer did.back;
       leaves = refl;
     }

@@ -4,7 +4,7 @@ use Rattle.std.specs.Bool.{beq}
 use Rattle.game.specs.declared.kinds.Side.{Side}
 use Rattle.game.specs.declared.kinds.Score.{Score}
 use Rattle.game.specs.Kinds.{is_black, points}
-use Rattle.proof_method.specs.declared.claim.Claim.{Claim}
+use Rattle.search_method.specs.declared.claim.Claim.{Claim}
 
 -- an end with this score gives the claimed verdict
 abbrev pub given_by : Claim → Score → Bool

@@ -1,10 +1,10 @@
-// What the walks of check and write carry along.
+// A verdict that is claimed: simulations test it, and proof files carry it.
 ghost use Rattle.std.specs.Prelude.{◌≡◌};
-ghost use Rattle.proof_method.specs.Claims.{given_by, claims};
+ghost use Rattle.search_method.specs.Claims.{given_by, claims};
 
 use game::kinds::{Score, Side};
 
-// The verdict for a floor.
+// The verdict for a floor: the value is at least the floor, or it is not.
 #[derive(Clone, Copy)]
 pub struct Claim {
     pub floor: u8,
@@ -25,11 +25,4 @@ impl Claim {
     {
         side.is_black() == self.yes
     }
-}
-
-// The bytes read or written so far, and the plays left.
-#[derive(Clone, Copy)]
-pub struct State {
-    pub at: usize,
-    pub left: u32,
 }

@@ -2,7 +2,7 @@
 use Rattle.std.specs.Prelude.{◌≡◌}
 use Rattle.game.specs.Meaning.{Line, Meaning}
 
--- a game at the line and of the meaning that it had before
-pub record Restored {G : Type 0} (means : G → Meaning) (line : G → Line) (before after : G) : Type 0 where
+-- a game of the meaning and at the line that it had before
+pub record Kept {G : Type 0} (means : G → Meaning) (line : G → Line) (before after : G) : Type 0 where
   pub same : means after ≡ means before
   pub back : line after ≡ line before
