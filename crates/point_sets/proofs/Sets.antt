@@ -235,3 +235,7 @@ set_same p f m e t =
 
 pub more_fits : (p : ℕ) (f : ℕ → Bool) (m at : ℕ) → m ≡ set_of p f → at ≡ 2 ^ p → p < 63 → m + at < 2 ^ 64
 more_fits p f m at e g h = omega (arith, set_lt p f, pow_below p 63 h)
+
+-- the same for a place that no word has
+pub past_word : (m p : ℕ) → m < 2 ^ 64 → 64 ≤ p → ltb p 64 ≡ has m p
+past_word m p h g = le-ltb p 64 g ∙ sym (has_none 64 m p h g)
