@@ -1,5 +1,5 @@
 -- The points of a set as a list, in their order.
-use Rattle.std.proofs.Common.{◌≡◌, ℕ, zero, suc, ◌+◌, ◌-◌, ◌*◌, ◌%◌, ◌^◌, ◌<◌, ◌≤◌, Bool, true, false, cond, [], ◌∷◌, ◌++◌, length, get_or, sym, refl, ap, ◌∙◌, subst, inl, inr, add-zero, add-suc, add-one, zero-add, mod-lt, arith, lit≤, lt_of_lt_of_le, filter}
+use Rattle.std.proofs.Common.{◌≡◌, ℕ, zero, suc, ◌+◌, ◌-◌, ◌*◌, ◌%◌, ◌^◌, ◌<◌, ◌≤◌, Bool, true, false, cond, [], ◌∷◌, ◌++◌, length, get_or, sym, refl, ap, ap₂, ◌∙◌, subst, inl, inr, add-zero, add-suc, add-one, zero-add, mod-lt, arith, lit≤, lt_of_lt_of_le, filter}
 use native.Mathlib.Nat.{pow-le-pow_right}
 use Rattle.std.specs.List.{range_with_len}
 use Rattle.std.proofs.lemmas.List.FromFn.{filter_of_map_range_with_len_more}
@@ -109,12 +109,13 @@ length_sub f g (suc s) h =
       ]
     ]
 
--- equal tests pass as often
+-- equal tests pass at the same points
+pub list_same : (f g : ℕ → Bool) (s : ℕ) → ((p : ℕ) → p < s → f p ≡ g p) → list_of s f ≡ list_of s g
+list_same f g zero h = refl
+list_same f g (suc s) h = ap₂ (λ l b. l ++ cond b (s ∷ []) []) (list_same f g s (λ p l. h p (omega arith))) (h s (omega arith))
+
 pub length_same : (f g : ℕ → Bool) (s : ℕ) → ((p : ℕ) → p < s → f p ≡ g p) → length (list_of s f) ≡ length (list_of s g)
-length_same f g s h =
-    let a = length_sub f g s (λ p l e. sym (h p l) ∙ e) in
-    let b = length_sub g f s (λ p l e. h p l ∙ e) in
-    omega arith
+length_same f g s h = ap length (list_same f g s h)
 
 -- a test that passes at all the same points but p passes once less
 pub length-drop : (f g : ℕ → Bool) (s p : ℕ) → p < s → f p ≡ true → g p ≡ false → ((q : ℕ) → q < s → (q ≡ p → ⊥) → f q ≡ g q) → length (list_of s g) + 1 ≡ length (list_of s f)

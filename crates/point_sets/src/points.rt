@@ -1,10 +1,11 @@
-ghost use Rattle.std.specs.Prelude.{◌≡◌, length, slice_index};
+ghost use Rattle.std.specs.Prelude.{◌≡◌, ◌<◌, true, length, slice_index};
 ghost use Rattle.point_sets.specs.Points.{has, list_of};
 
 // Whether point p is in m.
 #[tactic(auto, using(crate::proofs::Sets::has_test, crate::proofs::Sets::past_word))]
 pub fn has_point(m: u64, p: u32) -> bool
-    ensures { result ≡ has m p }
+    ensures is { result ≡ has m p }
+    ensures inside { result ≡ true → p < 64 }
 {
     p < 64 && (m >> p) & 1 == 1
 }
