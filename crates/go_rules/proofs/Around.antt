@@ -11,7 +11,7 @@ use Rattle.point_sets.proofs.Sets.{has_and, has_or, has_shr, has_shl, has_set, s
 pub small_board : (n : ℕ) → n ≤ 7 → n * n ≤ 49
 small_board n h = mul-le n n 7 7 h h
 
-abbrev pub shifted : ℕ → ℕ → ℕ
+abbrev shifted : ℕ → ℕ → ℕ
 shifted n m =
     bit_or (bit_or (bit_and (m * 2 ^ 1 % 2 ^ 64) (left_ones n)) (bit_and (m / 2 ^ 1) (right_ones n)))
     (bit_and (bit_or (m * 2 ^ n % 2 ^ 64) (m / 2 ^ n)) (points n))
@@ -70,8 +70,13 @@ module _ (n m p : ℕ) (small : n ≤ 7) (on : p < n * n) where
   has_shifted =
       has_or _ _ p ∙ ap₂ ◌||◌ (has_or _ _ p ∙ ap₂ ◌||◌ left right) upright
 
-pub shifted_is : (n m : ℕ) → n ≤ 7 → shifted n m ≡ around n m
+shifted_is : (n m : ℕ) → n ≤ 7 → shifted n m ≡ around n m
 unfolding around
 shifted_is n m small =
     same_set (n * n) (shifted n m) (set_of (n * n) (touches n m)) (shifted_lt n m) (set_lt (n * n) (touches n m))
     (λ p on. has_shifted n m p small on ∙ sym (has_set (n * n) (touches n m) p on))
+
+-- as a board's routine finds them, by the words of the board
+pub around_is : (n m all lefts rights : ℕ) → n ≤ 7 → all ≡ points n → lefts ≡ left_ones n → rights ≡ right_ones n →
+    bit_or (bit_or (bit_and (m * 2 ^ 1 % 2 ^ 64) lefts) (bit_and (m / 2 ^ 1) rights)) (bit_and (bit_or (m * 2 ^ n % 2 ^ 64) (m / 2 ^ n)) all) ≡ around n m
+around_is n m all lefts rights small a l r = simp (a, l, r) (shifted_is n m small)

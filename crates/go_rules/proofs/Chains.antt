@@ -77,6 +77,11 @@ pub reach_start : (n s f q : ℕ) → has f q ≡ true → has s q ≡ true → 
 unfolding reach
 reach_start n s f q e i = spread_keeps n s s (bit_and f s) q (start_within s f) (has_and f s q ∙ and_from _ _ e i)
 
+-- a chain begins in the set
+pub starts : (n s p q : ℕ) → Joined n s p q → has s p ≡ true
+starts n s p q (here i) = i
+starts n s p q (step {q = x} j b i) = starts n s p x j
+
 module _ (n : ℕ) (low : 3 ≤ n) (high : n ≤ 7) where
   -- a point that touches m has a neighbour in m
   touch_from : (m p : ℕ) → OnBoard n m → p < n * n → touches n m p ≡ true → (q : ℕ) × (has m q ≡ true) × Neighbours n q p
@@ -181,10 +186,6 @@ module _ (n : ℕ) (low : 3 ≤ n) (high : n ≤ 7) where
         ∙ has_and s (bit_or r (around n r)) q
         ∙ and_from _ _ i (has_or r (around n r) q ∙ or_right _ _ (around_to r q x (closed r p x still e j) b))
 
-    pub starts : (p q : ℕ) → Joined n s p q → has s p ≡ true
-    starts p q (here i) = i
-    starts p q (step {q = x} j b i) = starts p x j
-
     pub reach_chained : Chained n s f (reach n s f)
     unfolding reach From
     reach_chained q = (
@@ -194,6 +195,6 @@ module _ (n : ℕ) (low : 3 ≤ n) (high : n ≤ 7) where
           (p, x.0, here x.1)) q,
       λ j.
           closed (spread s n s (bit_and f s)) j.0 q (spread_still s (bit_and f s) (start_within s f) (omega arith))
-          (spread_keeps n s s (bit_and f s) j.0 (start_within s f) (has_and f s j.0 ∙ and_from _ _ j.1 (starts j.0 q j.2)))
+          (spread_keeps n s s (bit_and f s) j.0 (start_within s f) (has_and f s j.0 ∙ and_from _ _ j.1 (starts n s j.0 q j.2)))
           j.2,
     )

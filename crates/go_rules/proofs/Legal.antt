@@ -1,28 +1,31 @@
 -- Free points, liberties and legal moves.
-use Rattle.std.proofs.Common.{◌≡◌, ℕ, ◌*◌, ◌/◌, ◌%◌, ◌^◌, ◌≤◌, Bool, true, false, cond, not, ◌&&◌, ◌||◌, eqb, sym, refl, ap, ◌∙◌, ap₂, inl, inr, arith}
-use lib.Bits.{bit_and, bit_or, bit_xor}
+use Rattle.std.proofs.Common.{◌≡◌, ℕ, ◌-◌, ◌<◌, ◌*◌, ◌/◌, ◌%◌, ◌^◌, ◌≤◌, Bool, true, false, cond, not, ◌&&◌, ◌||◌, eqb, sym, refl, ap, ◌∙◌, ap₂, inl, inr, arith, lit≤, lt_of_lt_of_le}
+use native.Mathlib.Nat.{pow-le-pow_right}
+use lib.Bits.{bit_and, bit_or, or_lt}
 use Rattle.std.proofs.lemmas.Bool.{cases_lt, true≢false, ne_eqb, eq-eqb, or_left, or_right, and_parts, and_from, and_left, cond-true, cond-false}
 use Rattle.point_sets.specs.Points.{has, set_of}
 use Rattle.go_rules.specs.Groups.{points, Neighbours, around}
 use Rattle.go_rules.specs.Rules.{free_of, living, with_stone, leaves_one, may_fill, legal, all_live, move_set}
-use Rattle.point_sets.proofs.Sets.{same_bits, without, has_and, has_or, has_xor, has_set, has_none, set_lt, has_pow}
+use Rattle.point_sets.proofs.Sets.{same_bits, has_and, has_and_not, has_or, has_set, has_none, set_lt, has_pow}
+use Rattle.go_rules.proofs.Around.{small_board}
 use Rattle.go_rules.proofs.Chains.{around_from, around_to, reach_start}
 
-pub free_is : (n s t : ℕ) → bit_xor (bit_or (points n) (bit_or s t)) (bit_or s t) ≡ free_of n s t
+pub free_is : (n s t all : ℕ) → n ≤ 7 → all ≡ points n → s < 2 ^ 64 → t < 2 ^ 64 → bit_and all (2 ^ 64 - 1 - bit_or s t) ≡ free_of n s t
 unfolding free_of
-free_is n s t =
-    same_bits (bit_xor (bit_or (points n) (bit_or s t)) (bit_or s t)) (set_of (n * n) (λ p. not (has s p || has t p))) (λ p.
-    has_xor (bit_or (points n) (bit_or s t)) (bit_or s t) p
-    ∙ ap (λ b. cond (has (bit_or s t) p) (not b) b) (has_or (points n) (bit_or s t) p)
-    ∙ without (has (points n) p) (has (bit_or s t) p)
+free_is n s t all small whole hs ht =
+    let fits : n * n ≤ 64 = omega (arith, small_board n small) in
+    let low : points n < 2 ^ 64 = lt_of_lt_of_le (set_lt (n * n) (λ p. true)) (pow-le-pow_right (lit≤ tt) fits) in
+    simp whole (same_bits (bit_and (points n) (2 ^ 64 - 1 - bit_or s t)) (set_of (n * n) (λ p. not (has s p || has t p))) (λ p.
+    has_and_not (points n) (bit_or s t) p low (or_lt 64 s t hs ht)
+    ∙ ap (λ b. has (points n) p && not b) (has_or s t p)
     ∙ elim (cases_lt p (n * n)) [
       | inl l ↦
-          ap₂ (λ a b. a && not b) (has_set (n * n) (λ q. true) p l) (has_or s t p)
+          ap (λ a. a && not (has s p || has t p)) (has_set (n * n) (λ q. true) p l)
           ∙ sym (has_set (n * n) (λ q. not (has s q || has t q)) p l)
       | inr g ↦
-          ap (λ a. a && not (has (bit_or s t) p)) (has_none (n * n) (points n) p (set_lt (n * n) (λ q. true)) g)
+          ap (λ a. a && not (has s p || has t p)) (has_none (n * n) (points n) p (set_lt (n * n) (λ q. true)) g)
           ∙ sym (has_none (n * n) (set_of (n * n) (λ q. not (has s q || has t q))) p (set_lt (n * n) (λ q. not (has s q || has t q))) g)
-    ])
+    ]))
 
 -- no point is its own neighbour
 apart : (n q p : ℕ) → Neighbours n q p → q ≡ p → ⊥

@@ -1,9 +1,9 @@
 -- Liberties and legal moves, in the words of the game.
-use Rattle.std.proofs.Common.{◌≡◌, ℕ, ◌*◌, ◌^◌, ◌<◌, ◌≤◌, Bool, true, false, cond, not, ◌||◌, ◌⊎◌, Decides, sym, refl, ap, ◌∙◌, subst, inl, inr, lt_of_le_of_lt}
+use Rattle.std.proofs.Common.{◌≡◌, ℕ, ◌*◌, ◌%◌, ◌^◌, ◌<◌, ◌≤◌, Bool, true, false, cond, not, ◌||◌, ◌⊎◌, Decides, sym, refl, ap, ◌∙◌, subst, inl, inr, lt_of_le_of_lt}
 use lib.Bits.{or_lt}
-use Rattle.std.proofs.lemmas.Nat.{pow_below, pow_pos}
+use Rattle.std.proofs.lemmas.Nat.{one_shl, pow_below, pow_pos}
 use Rattle.std.proofs.lemmas.Bool.Decides.{Decides-or}
-use Rattle.std.proofs.lemmas.Bool.{cases_Bool, true≢false, and_parts, and_from, eqb-true, eq-eqb, ne_eqb}
+use Rattle.std.proofs.lemmas.Bool.{cases_Bool, true≢false, and_parts, and_from, cond-true, eqb-true, eq-eqb, ne_eqb}
 use Rattle.point_sets.specs.Points.{has, set_of}
 use Rattle.go_rules.specs.Groups.{Neighbours, Joined, here, step, around, reach, OnBoard}
 use Rattle.go_rules.specs.Rules.{free_of, HasLiberty, living, Living, all_live, group_of, liberties_of, Group, Liberties, with_stone, leaves_one, takes_last, may_fill, legal, move_set, Takes, LegalMove, Moves}
@@ -57,7 +57,7 @@ module _ (n : ℕ) (low : 3 ≤ n) (high : n ≤ 7) where
   living_on s f on = lt_of_le_of_lt (reach_le n s (around n f)) on
 
   own_stone : (s f p : ℕ) → OnBoard n s → HasLiberty n s f p → has s p ≡ true
-  own_stone s f p on h = starts n low high s f on p h.stone h.joined
+  own_stone s f p on h = starts n s p h.stone h.joined
 
 pub free_on : (n s t : ℕ) → OnBoard n (free_of n s t)
 unfolding free_of
@@ -183,6 +183,20 @@ module _ (n : ℕ) (low : 3 ≤ n) (high : n ≤ 7) (own foe : ℕ) (on_own : On
             )
       ]
 
+-- the same of a set that a program found
+pub moves_found : (n own foe r : ℕ) → 3 ≤ n → n ≤ 7 → r ≡ move_set n own foe → OnBoard n own → OnBoard n foe → Moves n own foe r
+moves_found n own foe r low high e on_own on_foe = subst (Moves n own foe) (sym e) (moves_are n low high own foe on_own on_foe)
+
+-- the group of a stone, as a program finds it
+pub group_found : (n s p : ℕ) → has s p ≡ true → p < 64 → reach n s (1 * 2 ^ p % 2 ^ 64) ≡ group_of n s p
+group_found n s p t h = ap (reach n s) (one_shl p 64 h) ∙ sym (cond-true (has s p) (reach n s (2 ^ p)) 0 t)
+
+pub group_empty : (n s p q : ℕ) → has s p ≡ false → (has 0 q ≡ true → Joined n s p q) × (Joined n s p q → has 0 q ≡ true)
+group_empty n s p q t = (
+  λ e. absurd (true≢false (sym e ∙ has_zero q)),
+  λ j. absurd (true≢false (sym (starts n s p q j) ∙ t)),
+)
+
 -- the group of one point, and its liberties
 module _ (n : ℕ) (low : 3 ≤ n) (high : n ≤ 7) (s p : ℕ) (on : OnBoard n s) where
   pub group_is : Group n s p (group_of n s p)
@@ -199,7 +213,7 @@ module _ (n : ℕ) (low : 3 ≤ n) (high : n ≤ 7) (s p : ℕ) (on : OnBoard n 
         | inr t ↦
             let is = ap (λ b. cond b (reach n s (2 ^ p)) 0) t in (
               λ e. absurd (true≢false (sym e ∙ ap (λ (m : ℕ). has m q) is ∙ has_zero q)),
-              λ j. absurd (true≢false (sym (starts n low high s (2 ^ p) on p q j) ∙ t)),
+              λ j. absurd (true≢false (sym (starts n s p q j) ∙ t)),
             )
       ]
 

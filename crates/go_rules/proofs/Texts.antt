@@ -1,34 +1,46 @@
 -- The text of a position.
-use Rattle.std.proofs.Common.{◌≡◌, ℕ, ◌+◌, ◌*◌, ◌^◌, ◌<◌, ◌≤◌, Bool, true, false, cond, not, ◌&&◌, ◌||◌, ltb, leb, List, [], ◌∷◌, length, get_or, drop, Some, None, Option, sym, refl, ap, ◌∙◌, subst, ap₂, inl, inr, arith}
+use Rattle.std.proofs.Common.{◌≡◌, ℕ, ◌+◌, ◌-◌, ◌*◌, ◌^◌, ◌<◌, ◌≤◌, Bool, true, false, cond, not, ◌&&◌, ◌||◌, ltb, leb, List, [], ◌∷◌, length, get_or, filter, Some, None, Option, sym, refl, ap, ◌∙◌, subst, ap₂, arith, add-zero, zero-add}
+use Rattle.std.specs.List.{find, position_from, enumerate_from, range_with_len}
+use Rattle.std.specs.Option.{option_or}
+use Rattle.std.specs.Bool.{then_some}
 use Rattle.game.specs.declared.kinds.Side.{Side}
-use Rattle.std.proofs.lemmas.List.{at_drop_more, drop_all}
-use Rattle.std.proofs.lemmas.Bool.{lt-ltb, le-ltb, cases_lt, and_parts, leb-true, ltb-false, cond-true, cond-false}
-use Rattle.go_rules.specs.Text.{fits_at, first_unfit, lines_of, text_fault, stones_of, side_of, dead_set, dead_point, start_of, first_fault, read_fault, Told}
+use Rattle.std.proofs.lemmas.Bool.{and_parts, leb-true, ltb-false}
+use Rattle.go_rules.specs.Text.{fits_at, first_unfit, lines_of, text_fault, stones_of, side_of, dead_set, first_of, dead_point, start_of, first_fault, read_fault, Told}
 use Rattle.go_rules.specs.declared.place.Place.{Place}
 use Rattle.go_rules.specs.Play.{place_of, Position}
 use Rattle.point_sets.specs.Points.{has, set_of}
 use Rattle.go_rules.specs.Groups.{OnBoard}
 use Rattle.go_rules.specs.Rules.{free_of, living}
-use lib.Bits.{bit_or, bit_xor}
-use Rattle.point_sets.proofs.Sets.{same_bits, without, has_or, has_xor, has_set, has_none, set_lt}
+use lib.Bits.{bit_and, bit_or}
+use Rattle.point_sets.proofs.Sets.{has_or, has_and_not, has_set, set_lt}
+use Rattle.point_sets.proofs.Lists.{list_is, list_same}
 
--- the search for a byte out of form, step by step
-pub unfit_hit : (n : ℕ) (t : List ℕ) (i : ℕ) → i < length t → fits_at n i (get_or t i 0) ≡ false → first_unfit n i (drop i t) ≡ Some i
-unfit_hit n t i h e =
-    at_drop_more (first_unfit n i) t i 0 h ∙ ap (λ b. cond b (first_unfit n (i + 1) (drop (i + 1) t)) (Some i)) e
+-- a byte of the text with its place is out of form
+abbrev pub unfit : ℕ → ℕ × ℕ → Bool
+unfit n p = not (fits_at n p.0 p.1)
 
-pub unfit_miss : (n : ℕ) (t : List ℕ) (i : ℕ) → i < length t → fits_at n i (get_or t i 0) ≡ true → first_unfit n i (drop i t) ≡ first_unfit n (i + 1) (drop (i + 1) t)
-unfit_miss n t i h e =
-    at_drop_more (first_unfit n i) t i 0 h ∙ ap (λ b. cond b (first_unfit n (i + 1) (drop (i + 1) t)) (Some i)) e
+then_is : (b : Bool) (i : ℕ) → then_some b i ≡ cond b (Some i) None
+then_is true i = refl
+then_is false i = refl
 
-pub unfit_end : (n : ℕ) (t : List ℕ) (i : ℕ) → length t ≡ i → first_unfit n i (drop i t) ≡ cond (ltb (length t) (5 + n * n)) (Some (length t)) None
-unfit_end n t i e = ap (first_unfit n i) (drop_all i t (omega arith)) ∙ ap (λ (j : ℕ). cond (ltb j (5 + n * n)) (Some j) None) (sym e)
+-- the first byte out of form, and the end of the text where that comes early
+fault_from : (n i : ℕ) (t : List ℕ) →
+    option_or (position_from (unfit n) i (enumerate_from i t)) (then_some (ltb (i + length t) (5 + n * n)) (i + length t)) ≡ first_unfit n i t
+fault_from n i [] = ap (λ (j : ℕ). then_some (ltb j (5 + n * n)) j) (add-zero i) ∙ then_is (ltb i (5 + n * n)) i
+fault_from n i (b ∷ t) =
+    elim (fits_at n i b) as (λ v.
+    option_or (cond (not v) (Some i) (position_from (unfit n) (i + 1) (enumerate_from (i + 1) t))) (then_some (ltb (i + length (b ∷ t)) (5 + n * n)) (i + length (b ∷ t)))
+    ≡ cond v (first_unfit n (i + 1) t) (Some i)) [
+      | true ↦
+          let e : i + length (b ∷ t) ≡ (i + 1) + length t = omega arith in
+          ap (λ (j : ℕ). option_or (position_from (unfit n) (i + 1) (enumerate_from (i + 1) t)) (then_some (ltb j (5 + n * n)) j)) e
+          ∙ fault_from n (i + 1) t
+      | false ↦ refl
+    ]
 
-pub end_short : (n : ℕ) (t : List ℕ) (i : ℕ) → length t ≡ i → length t < 5 + n * n → Some (length t) ≡ first_unfit n i (drop i t)
-end_short n t i e h = sym (unfit_end n t i e ∙ cond-true (ltb (length t) (5 + n * n)) (Some (length t)) None (lt-ltb (length t) (5 + n * n) h))
-
-pub end_whole : (n : ℕ) (t : List ℕ) (i : ℕ) → length t ≡ i → 5 + n * n ≤ length t → None ≡ first_unfit n i (drop i t)
-end_whole n t i e h = sym (unfit_end n t i e ∙ cond-false (ltb (length t) (5 + n * n)) (Some (length t)) None (le-ltb (length t) (5 + n * n) h))
+pub fault_found : (n : ℕ) (t : List ℕ) →
+    option_or (position_from (unfit n) 0 (enumerate_from 0 t)) (then_some (ltb (length t) (5 + n * n)) (length t)) ≡ first_unfit n 0 t
+fault_found n t = simp zero-add at (fault_from n 0 t)
 
 -- what a text in form has
 pub record InForm (t : List ℕ) : Type 0 where
@@ -66,28 +78,27 @@ in_form t e =
       high = omega (arith, byte.1);
     }
 
--- the stones without liberty, by words
-pub dead_is : (n b w lb lw : ℕ) → OnBoard n b → OnBoard n w → lb ≡ living n b (free_of n b w) → lw ≡ living n w (free_of n b w) →
-    bit_or (bit_xor (bit_or b lb) lb) (bit_xor (bit_or w lw) lw) ≡ dead_set n b w
-unfolding dead_set
-dead_is n b w lb lw on_b on_w eb ew =
-    let f = λ (p : ℕ). (has b p && not (has (living n b (free_of n b w)) p)) || (has w p && not (has (living n w (free_of n b w)) p)) in
-    same_bits (bit_or (bit_xor (bit_or b lb) lb) (bit_xor (bit_or w lw) lw)) (set_of (n * n) f) (λ p.
-    has_or (bit_xor (bit_or b lb) lb) (bit_xor (bit_or w lw) lw) p
-    ∙ ap₂ ◌||◌ (minus b lb p ∙ ap (λ m. has b p && not (has m p)) eb) (minus w lw p ∙ ap (λ m. has w p && not (has m p)) ew)
-    ∙ elim (cases_lt p (n * n)) [
-      | inl l ↦ sym (has_set (n * n) f p l)
-      | inr g ↦
-          ap₂ (λ x y. (x && not (has (living n b (free_of n b w)) p)) || (y && not (has (living n w (free_of n b w)) p))) (has_none (n * n) b p on_b g) (has_none (n * n) w p on_w g)
-          ∙ sym (has_none (n * n) (set_of (n * n) f) p (set_lt (n * n) f) g)
-    ])
-  where
-    minus : (s l p : ℕ) → has (bit_xor (bit_or s l) l) p ≡ (has s p && not (has l p))
-    minus s l p = has_xor (bit_or s l) l p ∙ ap (λ x. cond (has l p) (not x) x) (has_or s l p) ∙ without (has s p) (has l p)
+-- the first of the points that pass
+first_found : (f : ℕ → Bool) (xs : List ℕ) → find f xs ≡ first_of (filter f xs)
+first_found f [] = refl
+first_found f (x ∷ xs) =
+    elim (f x) as (λ b. cond b (Some x) (find f xs) ≡ first_of (cond b (x ∷ filter f xs) (filter f xs))) [ true ↦ refl | false ↦ first_found f xs ]
 
-pub dead_word : (n b w : ℕ) → dead_set n b w < 2 ^ (n * n)
-unfolding dead_set
-dead_word n b w = set_lt (n * n) _
+-- the first of the stones without liberty, which are found by words
+module _ (n b w lb lw : ℕ) (b_fits : b < 2 ^ 64) (w_fits : w < 2 ^ 64) (lb_fits : lb < 2 ^ 64) (lw_fits : lw < 2 ^ 64)
+    (lb_is : lb ≡ living n b (free_of n b w)) (lw_is : lw ≡ living n w (free_of n b w)) where
+  dead_at : (p : ℕ) → p < n * n → has (bit_or (bit_and b (2 ^ 64 - 1 - lb)) (bit_and w (2 ^ 64 - 1 - lw))) p ≡ has (dead_set n b w) p
+  unfolding dead_set
+  dead_at p h =
+      has_or _ _ p
+      ∙ ap₂ ◌||◌ (has_and_not b lb p b_fits lb_fits ∙ ap (λ m. has b p && not (has m p)) lb_is)
+      (has_and_not w lw p w_fits lw_fits ∙ ap (λ m. has w p && not (has m p)) lw_is)
+      ∙ sym (has_set (n * n) _ p h)
+
+  pub dead_found : find (has (bit_or (bit_and b (2 ^ 64 - 1 - lb)) (bit_and w (2 ^ 64 - 1 - lw)))) (range_with_len 0 (n * n)) ≡ dead_point n b w
+  dead_found =
+      let f = has (bit_or (bit_and b (2 ^ 64 - 1 - lb)) (bit_and w (2 ^ 64 - 1 - lw))) in
+      first_found f (range_with_len 0 (n * n)) ∙ ap first_of (sym (list_is f (n * n)) ∙ list_same f (has (dead_set n b w)) (n * n) dead_at)
 
 pub stones_word : (n c : ℕ) (t : List ℕ) → OnBoard n (stones_of n c t)
 unfolding stones_of
@@ -117,9 +128,3 @@ start_good t n x told =
     let m = lines_of t in
     let good : Position m (start_of t) = (stones_word m 66 t, stones_word m 87 t, refl) in
     subst (λ (k : ℕ). Position k x) (sym told.lines) (subst (Position m) (sym told.start) good)
-
--- what the parts of a text ask for
-pub form_at : (t : List ℕ) (n : ℕ) → None ≡ text_fault t → n ≡ lines_of t → (n ≤ 7) × (5 + n * n ≤ length t)
-form_at t n fine n_is =
-    let form = in_form t (sym fine) in
-    (omega (arith, form.high), subst (λ (m : ℕ). 5 + m * m ≤ length t) (sym n_is) form.long)

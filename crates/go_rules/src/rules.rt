@@ -1,125 +1,113 @@
 // Free points, groups with a liberty, and legal moves.
-ghost use Rattle.std.specs.Prelude.{◌≡◌, ℕ, ◌+◌, ◌*◌, ◌^◌, ◌<◌, ◌≤◌, true, bit_and};
+ghost use Rattle.std.specs.Prelude.{◌≡◌, ℕ, ◌<◌, true, bit_and};
 ghost use Rattle.point_sets.specs.Points.{has};
-ghost use Rattle.go_rules.specs.Groups.{around, reach, OnBoard};
-ghost use Rattle.go_rules.specs.Rules.{free_of, living, Living, group_of, liberties_of, Group, Liberties, may_fill, legal, move_set, Moves};
+ghost use Rattle.go_rules.specs.Groups.{around, OnBoard};
+ghost use Rattle.go_rules.specs.Rules.{free_of, living, Living, group_of, liberties_of, Group, Liberties, with_stone, may_fill, legal, move_set, Moves};
 
-use crate::board::Board;
+use crate::board::{Board, points_where};
 use point_sets::points::has_point;
 
-// The points of the board in neither of two sets.
-fn in_neither(board: &Board, s: u64, t: u64) -> u64
-    ensures { result ≡ free_of board.now.n s t }
-{
-    let either = s | t;
-    (board.all | either) ^ either
-}
-
 // The empty points, where s and t are the stones.
+#[tactic(auto, using(crate::proofs::Legal::free_is))]
 pub fn free_points(board: &Board, s: u64, t: u64) -> u64
     ensures { result ≡ free_of board.now.n s t }
 {
-    in_neither(board, s, t)
+    board.all & !(s | t)
 }
 
-// The points of s that are joined within s to a neighbour of free.
-fn joined_beside(board: &Board, s: u64, free: u64) -> u64
+// The stones of s whose groups have a liberty in free.
+#[tactic(auto, using(crate::proofs::Liberties::living_is), unfolding(crate::specs::Rules::living))]
+pub fn living_stones(board: &Board, s: u64, free: u64) -> u64
     ensures is { result ≡ living board.now.n s free }
     ensures live { OnBoard board.now.n s → OnBoard board.now.n free → Living board.now.n s free result }
 {
     board.reach(s, board.around(free))
 }
 
-// The stones of s whose groups have a liberty in free.
-pub fn living_stones(board: &Board, s: u64, free: u64) -> u64
-    ensures is { result ≡ living board.now.n s free }
-    ensures live { OnBoard board.now.n s → OnBoard board.now.n free → Living board.now.n s free result }
-{
-    joined_beside(board, s, free)
-}
-
-// The group of a stone on p among the stones s.
-fn joined_to(board: &Board, s: u64, p: u32) -> u64
-    requires { has s p ≡ true }
-    ensures is { result ≡ group_of board.now.n s p }
-    ensures joined { OnBoard board.now.n s → Group board.now.n s p result }
-{
-    board.reach(s, 1 << p)
-}
-
 // The group of the stone on p among the stones s; empty where there is no stone on p.
+#[tactic(auto, using(crate::proofs::Liberties::group_found, crate::proofs::Liberties::group_empty, crate::proofs::Liberties::group_is))]
 pub fn group_of(board: &Board, s: u64, p: u32) -> u64
     ensures is { result ≡ group_of board.now.n s p }
     ensures joined { OnBoard board.now.n s → Group board.now.n s p result }
 {
     if has_point(s, p) {
-        joined_to(board, s, p)
+        board.reach(s, 1 << p)
     } else {
         0
     }
 }
 
-// The points of free beside the group of p among the stones s.
-fn beside_group(board: &Board, s: u64, free: u64, p: u32) -> u64
+// The liberties of the group of p among the stones s, where the points of free are empty.
+#[tactic(auto, using(crate::proofs::Liberties::liberties_are))]
+pub fn liberties_of(board: &Board, s: u64, free: u64, p: u32) -> u64
     ensures is { result ≡ liberties_of board.now.n s free p }
     ensures beside { OnBoard board.now.n s → Liberties board.now.n s free p result }
 {
     free & board.around(group_of(board, s, p))
 }
 
-// The liberties of the group of p among the stones s, where the points of free are empty.
-pub fn liberties_of(board: &Board, s: u64, free: u64, p: u32) -> u64
-    ensures is { result ≡ liberties_of board.now.n s free p }
-    ensures beside { OnBoard board.now.n s → Liberties board.now.n s free p result }
+// The stones s with one on p.
+pub(crate) fn with_stone(s: u64, p: u32) -> u64
+    requires { p < 64 }
+    ensures { result ≡ with_stone s p }
 {
-    beside_group(board, s, free, p)
+    s | (1 << p)
 }
 
-// Whether a stone on p leaves its own group a liberty or takes an enemy group's last; `before` are the enemy stones that have one now.
-fn may_fill(board: &Board, own: u64, foe: u64, before: u64, p: u32) -> bool
-    requires place { p < 64 }
-    requires before { before ≡ living board.now.n foe (free_of board.now.n own foe) }
-    ensures { result ≡ may_fill board.now.n own foe p }
-{
-    let mine = own | (1 << p);
-    let free = free_points(board, mine, foe);
-    has_point(living_stones(board, mine, free), p) | (living_stones(board, foe, free) != before)
+// The side on turn, whose stones are own, and what its moves need to be told.
+#[derive(Drop)]
+struct Mover<'a> {
+    board: &'a Board,
+    own: u64,
+    foe: u64,
+    // The empty points, and those of them with an empty neighbour, which need no look at groups.
+    free: u64,
+    wide: u64,
+    // The enemy stones whose groups have a liberty now.
+    before: u64,
+    ghost empty: { free ≡ free_of board.now.n own foe },
+    ghost roomy: { wide ≡ bit_and free (around board.now.n free) },
+    ghost alive: { before ≡ living board.now.n foe free },
 }
 
-// Whether p is a legal move; `open` are the free points with a free neighbour, which need no look at groups.
-fn is_legal(board: &Board, own: u64, foe: u64, free: u64, open: u64, before: u64, p: u32) -> bool
-    requires place { p < 64 }
-    requires free { free ≡ free_of board.now.n own foe }
-    requires open { «open» ≡ bit_and free (around board.now.n free) }
-    requires before { before ≡ living board.now.n foe (free_of board.now.n own foe) }
-    ensures { result ≡ legal board.now.n own foe p }
-{
-    if has_point(open, p) {
-        return true;
+impl<'a> Mover<'a> {
+    // Whether a stone on p leaves its own group a liberty or takes an enemy group's last.
+    #[tactic(auto, unfolding(crate::specs::Rules::may_fill))]
+    fn may_fill(&self, p: u32) -> bool
+        requires { p < 64 }
+        ensures { result ≡ may_fill self.now.board.now.n self.now.own self.now.foe p }
+    {
+        let mine = with_stone(self.own, p);
+        let free = free_points(self.board, mine, self.foe);
+        has_point(living_stones(self.board, mine, free), p) || living_stones(self.board, self.foe, free) != self.before
     }
-    if !has_point(free, p) {
-        return false;
+
+    // Whether p is a legal move.
+    #[tactic(auto, using(crate::proofs::Legal::open_legal), unfolding(crate::specs::Rules::legal))]
+    fn is_legal(&self, p: u32) -> bool
+        ensures { result ≡ legal self.now.board.now.n self.now.own self.now.foe p }
+    {
+        has_point(self.wide, p) || has_point(self.free, p) && self.may_fill(p)
     }
-    may_fill(board, own, foe, before, p)
 }
 
 // The legal moves of the side whose stones are own; none where one of its groups has no liberty.
+#[tactic(auto, unfolding(crate::specs::Rules::move_set, crate::specs::Rules::all_live))]
 pub fn legal_moves(board: &Board, own: u64, foe: u64) -> u64
     ensures is { result ≡ move_set board.now.n own foe }
     ensures legal { OnBoard board.now.n own → OnBoard board.now.n foe → Moves board.now.n own foe result }
 {
     let free = free_points(board, own, foe);
-    let live = living_stones(board, own, free);
-    if live != own {
+    if living_stones(board, own, free) != own {
         return 0;
     }
-    let open = free & board.around(free);
-    let before = living_stones(board, foe, free);
-    let mut moves: u64 = 0;
-    for p in 0..board.n * board.n {
-        if is_legal(board, own, foe, free, open, before, p) {
-            moves += 1 << p;
-        }
-    }
-    moves
+    let mover = Mover {
+        board,
+        own,
+        foe,
+        free,
+        wide: free & board.around(free),
+        before: living_stones(board, foe, free),
+    };
+    points_where(board.size(), |p| mover.is_legal(p))
 }

@@ -1,11 +1,10 @@
 // Positions: of given stones, and one move on.
-ghost use Rattle.std.specs.Prelude.{◌≡◌, ◌<◌, slice_index};
-ghost use Rattle.go_rules.specs.Rules.{with_stone};
-ghost use Rattle.go_rules.specs.Play.{place_of, moves_at, after, empty_ones};
+ghost use Rattle.std.specs.Prelude.{◌≡◌};
+ghost use Rattle.go_rules.specs.Play.{place_of, after, empty_ones};
 
 use crate::board::Board;
 use crate::place::Place;
-use crate::rules::{free_points, legal_moves};
+use crate::rules::{free_points, legal_moves, with_stone};
 use game::kinds::Side;
 use point_sets::points::{count_points, nth_point};
 
@@ -25,27 +24,12 @@ pub fn place_of(board: &Board, black: u64, white: u64, side: Side) -> Place
     }
 }
 
-// The point of move k, or 0 where there is no such move.
-fn point_of(board: &Board, x: Place, k: u32) -> u32
-    ensures is { result ≡ slice_index (moves_at board.now.n x) k }
-    ensures low { result < 64 }
-{
-    nth_point(x.moves, board.n * board.n, k)
-}
-
-// The stones s with one on p.
-fn with_stone(s: u64, p: u32) -> u64
-    requires { p < 64 }
-    ensures { result ≡ with_stone s p }
-{
-    s | (1 << p)
-}
-
 // The position after move k.
+#[tactic(auto, using(point_sets::proofs::Lists::nth_low))]
 pub fn place_after(board: &Board, x: Place, k: u32) -> Place
     ensures { result ≡ after board.now.n x k }
 {
-    let p = point_of(board, x, k);
+    let p = nth_point(x.moves, board.size(), k);
     match x.side {
         Side::Black => place_of(board, with_stone(x.black, p), x.white, Side::White),
         Side::White => place_of(board, x.black, with_stone(x.white, p), Side::Black),
@@ -53,8 +37,9 @@ pub fn place_after(board: &Board, x: Place, k: u32) -> Place
 }
 
 // The number of empty points.
+#[tactic(auto, using(point_sets::proofs::Lists::length_le))]
 pub fn empty_count(board: &Board, x: Place) -> u16
     ensures { result ≡ empty_ones board.now.n x }
 {
-    count_points(free_points(board, x.black, x.white), board.n * board.n) as u16
+    count_points(free_points(board, x.black, x.white), board.size()) as u16
 }

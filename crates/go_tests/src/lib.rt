@@ -11,47 +11,32 @@ mod tests {
 
     // The number of the refusal of a text and its place; 0 and 0 where it is read.
     fn refusal(text: &[u8]) -> (u8, usize) {
-        match AtariGo::read(text) {
-            Ok(_) => (0, 0),
-            Err(e) => (e.number(), e.place()),
-        }
+        AtariGo::read(text).map_or_else(|e| (e.number(), e.place()), |_| (0, 0))
     }
 
     // The number of moves and the height of a position; 255 and 255 where its text is refused.
     fn counts(text: &[u8]) -> (u32, u32) {
-        match AtariGo::read(text) {
-            Ok(game) => (game.moves(), game.height()),
-            Err(_) => (255, 255),
-        }
+        AtariGo::read(text).map_or((255, 255), |game| (game.moves(), game.height()))
     }
 
     // The number of a refused call; 0 of one that was done.
     fn answer(done: Result<(), Refusal>) -> u8 {
-        match done {
-            Ok(_) => 0,
-            Err(e) => e.number(),
-        }
+        done.map_or_else(|e| e.number(), |()| 0)
     }
 
     // The score of a line that is over, 3 of one that goes on.
     fn points(score: Option<Score>) -> u8 {
-        match score {
-            Some(s) => s.points(),
-            None => 3,
-        }
+        score.map_or(3, |s| s.points())
     }
 
     // The words a and b and the score after a move of a position; the number of the refusal, 0 and 9 where it is refused.
     fn after(text: &[u8], k: u32) -> (u64, u64, u8) {
-        match AtariGo::read(text) {
-            Ok(g) => {
-                let mut game = g;
-                match game.play(k) {
-                    Ok(_) => (game.a(), game.b(), points(game.score())),
-                    Err(e) => (u64::from(e.number()), 0, 9),
-                }
-            }
-            Err(_) => (0, 0, 8),
+        let Ok(mut game) = AtariGo::read(text) else {
+            return (0, 0, 8);
+        };
+        match game.play(k) {
+            Ok(()) => (game.a(), game.b(), points(game.score())),
+            Err(e) => (u64::from(e.number()), 0, 9),
         }
     }
 
@@ -116,23 +101,15 @@ mod tests {
         assert_eq!(rt; after(b"G3:B:WB.......", 7), (1, 0, 9));
         assert_eq!(rt; after(b"G3:B:WB.......", 4294967295), (1, 0, 9));
         assert_eq!(rt; after(b"G3:B:.BBBBBBBB", 0), (2, 0, 9));
-        match AtariGo::read(b"G3:B:WB.......") {
-            Ok(g) => {
-                let mut game = g;
-                assert_eq!(rt; answer(game.take_back()), 4);
-                assert_eq!(rt; answer(game.play(1)), 0);
-                assert_eq!(rt; answer(game.play(0)), 2);
-                assert_eq!(rt; game.level(), 6);
-                assert_eq!(rt; game.earlier(0).a, 2);
-                assert_eq!(rt; answer(game.take_back()), 0);
-                assert_eq!(rt; game.a(), 2);
-                assert_eq!(rt; game.played(), 0);
-                Ok(())
-            }
-            Err(_) => {
-                assert!(rt; false);
-                Ok(())
-            },
-        }
+        let mut game = AtariGo::read(b"G3:B:WB.......")?;
+        assert_eq!(rt; answer(game.take_back()), 4);
+        assert_eq!(rt; answer(game.play(1)), 0);
+        assert_eq!(rt; answer(game.play(0)), 2);
+        assert_eq!(rt; game.level(), 6);
+        assert_eq!(rt; game.earlier(0).a, 2);
+        assert_eq!(rt; answer(game.take_back()), 0);
+        assert_eq!(rt; game.a(), 2);
+        assert_eq!(rt; game.played(), 0);
+        Ok(())
     }
 }

@@ -1,9 +1,12 @@
 -- The points of a set as a list, in their order.
-use Rattle.std.proofs.Common.{◌≡◌, ℕ, zero, suc, ◌+◌, ◌-◌, ◌*◌, ◌%◌, ◌^◌, ◌<◌, ◌≤◌, Bool, true, false, cond, [], ◌∷◌, ◌++◌, length, get_or, sym, refl, ap, ◌∙◌, subst, inl, inr, add-zero, add-suc, mod-lt, arith}
+use Rattle.std.proofs.Common.{◌≡◌, ℕ, zero, suc, ◌+◌, ◌-◌, ◌*◌, ◌%◌, ◌^◌, ◌<◌, ◌≤◌, Bool, true, false, cond, [], ◌∷◌, ◌++◌, length, get_or, sym, refl, ap, ap₂, ◌∙◌, subst, inl, inr, add-zero, add-suc, add-one, zero-add, mod-lt, arith, lit≤, lt_of_lt_of_le, filter}
+use native.Mathlib.Nat.{pow-le-pow_right}
+use Rattle.std.specs.List.{range_with_len}
+use Rattle.std.proofs.lemmas.List.FromFn.{filter_of_map_range_with_len_more}
 use lib.Bits.{bit_and}
 use Rattle.std.proofs.lemmas.Nat.{one_shl, pow_pos, and_mask}
 use lib.Count.{ones, ones_cat}
-use Rattle.std.proofs.lemmas.List.{length-append, get_or_append_left, get_or_push, get_or_past}
+use Rattle.std.proofs.lemmas.List.{map-id, length-append, get_or_append_left, get_or_push, get_or_past}
 use Rattle.std.proofs.lemmas.Bool.{cases_lt, cases_Bool, cases_eq}
 use Rattle.point_sets.specs.Points.{has, set_of, list_of}
 use Rattle.point_sets.proofs.Sets.{has_set, has_mod, set_lt, same_set, next_set}
@@ -67,11 +70,13 @@ set_of_has k m h = same_set k (set_of k (has m)) m (set_lt k (has m)) h (λ p l.
 pub ones_list : (k m : ℕ) → m < 2 ^ k → ones m ≡ length (list_of k (has m))
 ones_list k m h = ap ones (sym (set_of_has k m h)) ∙ ones_set (has m) k
 
--- the loop that counts down to a point
-pub nth_here : (s p m k left : ℕ) → p < s → has m p ≡ true → left + length (list_of p (has m)) ≡ k → left ≡ 0 → p ≡ get_or (list_of s (has m)) k 0
-nth_here s p m k left h e inv z =
-    let i : length (list_of p (has m)) ≡ k = omega arith in
-    sym (place_of (has m) s p h e) ∙ ap (λ j. get_or (list_of s (has m)) j 0) i
+-- the points below s, as a program goes over them
+pub list_is : (f : ℕ → Bool) (s : ℕ) → list_of s f ≡ filter f (range_with_len 0 s)
+list_is f zero = refl
+list_is f (suc s) =
+    ap (λ l. l ++ cond (f s) (s ∷ []) []) (list_is f s)
+    ∙ sym (simp map-id at (filter_of_map_range_with_len_more f (λ x. x) 0 s s (zero-add s)))
+    ∙ ap (λ k. filter f (range_with_len 0 k)) (add-one s)
 
 -- a number of the list is a point that passes the test
 pub member : (f : ℕ → Bool) (s k : ℕ) → k < length (list_of s f) → (get_or (list_of s f) k 0 < s) × (f (get_or (list_of s f) k 0) ≡ true)
@@ -104,12 +109,13 @@ length_sub f g (suc s) h =
       ]
     ]
 
--- equal tests pass as often
+-- equal tests pass at the same points
+pub list_same : (f g : ℕ → Bool) (s : ℕ) → ((p : ℕ) → p < s → f p ≡ g p) → list_of s f ≡ list_of s g
+list_same f g zero h = refl
+list_same f g (suc s) h = ap₂ (λ l b. l ++ cond b (s ∷ []) []) (list_same f g s (λ p l. h p (omega arith))) (h s (omega arith))
+
 pub length_same : (f g : ℕ → Bool) (s : ℕ) → ((p : ℕ) → p < s → f p ≡ g p) → length (list_of s f) ≡ length (list_of s g)
-length_same f g s h =
-    let a = length_sub f g s (λ p l e. sym (h p l) ∙ e) in
-    let b = length_sub g f s (λ p l e. h p l ∙ e) in
-    omega arith
+length_same f g s h = ap length (list_same f g s h)
 
 -- a test that passes at all the same points but p passes once less
 pub length-drop : (f g : ℕ → Bool) (s p : ℕ) → p < s → f p ≡ true → g p ≡ false → ((q : ℕ) → q < s → (q ≡ p → ⊥) → f q ≡ g q) → length (list_of s g) + 1 ≡ length (list_of s f)
@@ -135,6 +141,10 @@ count_low k m h =
     ∙ ap ones (and_mask m k)
     ∙ ones_list k (m % 2 ^ k) (mod-lt m (pow_pos k))
     ∙ length_same (has (m % 2 ^ k)) (has m) k (λ p l. has_mod m k p l)
+
+-- where a word has no more bits than k
+pub count_word : (k m : ℕ) → m < 2 ^ 64 → 64 ≤ k → ones m ≡ length (list_of k (has m))
+count_word k m h g = ones_list k m (lt_of_lt_of_le h (pow-le-pow_right (lit≤ tt) g))
 
 -- a number of the list, or 0 past its end, is no more than the bound
 pub nth_low : (f : ℕ → Bool) (s k : ℕ) → get_or (list_of s f) k 0 ≤ s

@@ -1,35 +1,22 @@
-ghost use Rattle.std.specs.Prelude.{◌≡◌, ◌<◌, length, slice_index};
+ghost use Rattle.std.specs.Prelude.{◌≡◌, ◌<◌, true, length, slice_index};
 ghost use Rattle.point_sets.specs.Points.{has, list_of};
 
-// Whether bit p of m is 1.
-fn test_bit(m: u64, p: u32) -> bool
-    requires { p < 64 }
-    ensures { result ≡ has m p }
-{
-    (m >> p) & 1 == 1
-}
-
 // Whether point p is in m.
+#[tactic(auto, using(crate::proofs::Sets::has_test, crate::proofs::Sets::past_word))]
 pub fn has_point(m: u64, p: u32) -> bool
-    ensures { result ≡ has m p }
+    ensures is { result ≡ has m p }
+    ensures inside { result ≡ true → p < 64 }
 {
-    p < 64 && test_bit(m, p)
-}
-
-// The number of the points of m below size, where a word has more bits.
-fn count_low(m: u64, size: u32) -> u32
-    requires { size < 64 }
-    ensures { result ≡ length (list_of size (has m)) }
-{
-    (m & ((1 << size) - 1)).count_ones()
+    p < 64 && (m >> p) & 1 == 1
 }
 
 // The number of the points of m below size.
+#[tactic(auto, using(crate::proofs::Lists::count_low, crate::proofs::Lists::count_word))]
 pub fn count_points(m: u64, size: u32) -> u32
     ensures { result ≡ length (list_of size (has m)) }
 {
     if size < 64 {
-        count_low(m, size)
+        (m & ((1 << size) - 1)).count_ones()
     } else {
         m.count_ones()
     }
@@ -39,14 +26,8 @@ pub fn count_points(m: u64, size: u32) -> u32
 pub fn nth_point(m: u64, size: u32, k: u32) -> u32
     ensures { result ≡ slice_index (list_of size (has m)) k }
 {
-    let mut left = k;
-    for p in 0..size {
-        if has_point(m, p) {
-            if left == 0 {
-                return p;
-            }
-            left -= 1;
-        }
-    }
-    0
+    (0..size)
+        .filter(|p| has_point(m, *p))
+        .nth(k as usize)
+        .unwrap_or(0)
 }

@@ -1,34 +1,12 @@
-use Rattle.std.proofs.Common.{◌≡◌, ℕ, None, sym, ◌∙◌, subst, arith}
-use Rattle.go_rules.specs.Groups.{OnBoard}
+use Rattle.std.proofs.Common.{◌≡◌, None, sym, ◌∙◌, arith}
 use Rattle.go_rules.specs.Text.{lines_of}
-use Rattle.go_rules.proofs.Texts.{in_form, form_at, stones_word, form_answer, told, start_good}
+use Rattle.go_rules.proofs.Texts.{in_form, form_answer, told, start_good}
 use Rattle.go_rules.proofs.text.read_position.Goals as goal
 
 pub returns-in_default-of : goal.returns-in_default-of
 returns-in_default-of c =
     let form = in_form c.args.text.now (sym c.in_default.ensures) in
     absurd (omega (arith, form.low, form.high, c.from.ensures, c.lines_of.ensures, c.in_default-of.ensures))
-
-pub stones_of-black-requires : goal.stones_of-black-requires
-stones_of-black-requires c =
-    let at = form_at c.args.text.now c.in-Some-of.board.n c.in_default.ensures (c.in-Some-of.ensures ∙ c.from.ensures ∙ c.lines_of.ensures) in
-    record { lines = at.0; long = at.1 }
-
-pub stones_of-white-requires : goal.stones_of-white-requires
-stones_of-white-requires c =
-    let at = form_at c.args.text.now c.in-Some-of.board.n c.in_default.ensures (c.in-Some-of.ensures ∙ c.from.ensures ∙ c.lines_of.ensures) in
-    record { lines = at.0; long = at.1 }
-
-pub dead_point-requires : goal.dead_point-requires
-dead_point-requires c =
-    let P : ℕ → Type 0 = OnBoard c.in-Some-of.board.n in
-    record {
-      black = subst P (sym c.stones_of-black.ensures) (stones_word c.in-Some-of.board.n 66 c.args.text.now);
-      white = subst P (sym c.stones_of-white.ensures) (stones_word c.in-Some-of.board.n 87 c.args.text.now);
-    }
-
-pub side_of-requires : goal.side_of-requires
-side_of-requires c = omega (arith, (in_form c.args.text.now (sym c.in_default.ensures)).long)
 
 pub returns : goal.returns
 returns c =

@@ -1,25 +1,22 @@
-use Rattle.std.proofs.Common.{◌≡◌, ◌≤◌, length, sym, ap, add-one, arith}
-use Rattle.std.proofs.lemmas.List.{get_or_past}
-use Rattle.point_sets.specs.Points.{has, list_of}
-use Rattle.point_sets.proofs.Lists.{nth_here, length_in, length_out}
+use Rattle.std.proofs.Common.{sym, ap, ◌∙◌, get_or, filter, rules, arith}
+use borrow.Author.Tests.{tests}
+use Rattle.std.specs.List.{range_with_len}
+use Rattle.std.specs.Option.{unwrap_or}
+use Rattle.std.proofs.lemmas.Iterator.{YieldsList-from_range}
+use Rattle.std.proofs.lemmas.Iterator.Consumers.{YieldsList-from_filter, nth_from_yields_List}
+use Rattle.std.proofs.lemmas.Iterator.Adapters.{option_map_id}
+use Rattle.std.proofs.lemmas.Option.{unwrap_or-slice_get}
+use Rattle.point_sets.specs.Points.{has}
+use Rattle.point_sets.proofs.Lists.{list_is}
 use Rattle.point_sets.proofs.points.nth_point.Goals as goal
-use Rattle.point_sets.proofs.points.nth_point.Goals.{then-has_point+else-left-eq0, else-has_point}
-
-pub returns-then-left-eq0 : goal.returns-then-left-eq0
-returns-then-left-eq0 c =
-    nth_here c.args.size c.loop-p.p c.args.m c.args.k c.loop-p.left c.loop-p-test.true (sym c.if-has_point.ensures) c.loop-p.invariant c.if-left-eq0.true
-
-pub loop-p-preserved : goal.loop-p-preserved
-loop-p-preserved c =
-    let e = ap (λ p. length (list_of p (has c.args.m))) (add-one c.loop-p.p) in
-    elim c.if-has_point.branch [
-      | then-has_point+else-left-eq0 w ↦ omega (arith, e, length_in (has c.args.m) c.loop-p.p (sym w.if-has_point.ensures), w.left-is, w.if-left-eq0.false, c.loop-p.invariant)
-      | else-has_point w ↦ omega (arith, e, length_out (has c.args.m) c.loop-p.p (sym w.if-has_point.ensures), w.left-is, c.loop-p.invariant)
-    ]
 
 pub returns : goal.returns
 returns c =
-    let e : c.loop-p.p ≡ c.args.size = omega arith in
-    let h : length (list_of c.args.size (has c.args.m)) ≤ c.args.k =
-    omega (arith, ap (λ p. length (list_of p (has c.args.m))) e) in
-    sym (get_or_past (list_of c.args.size (has c.args.m)) c.args.k 0 h)
+    let f = has c.args.m in
+    let n = c.args.size in
+    c.unwrap_or.ensures
+    ∙ ap (λ o. unwrap_or o 0) (sym (option_map_id c.nth.result)
+    ∙ nth_from_yields_List c.nth.result c.nth.new.self c.args.k c.nth.ensures.ran
+    (YieldsList-from_filter _ f (YieldsList-from_range 0 n n (cc) (omega arith)) c.filter.ensures.closure (λ x r q k. search (rules, tests))))
+    ∙ unwrap_or-slice_get (filter f (range_with_len 0 n)) c.args.k 0
+    ∙ sym (ap (λ l. get_or l c.args.k 0) (list_is f n))
