@@ -4,68 +4,46 @@
 // room.
 #![tactic(auto)]
 
-ghost use Rattle.std.specs.Prelude.{◌≡◌, ◌≤◌};
-ghost use Rattle.card_line.specs.Lines.{Fits, card_text, claim_text, lined, verdict_word};
-ghost use Rattle.card_line.specs.Written.{LineIs};
+ghost use Rattle.std.specs.Prelude.{◌≡◌, ◌+◌, ◌≤◌, ◌++◌, length};
+ghost use Rattle.arrayvec.specs.ArrayString.{array_string_len};
+ghost use Rattle.card_line.specs.Lines.{Fits, card_text, lined};
 ghost use Rattle.proof_file.specs.Faults.{proof_of};
 
-use crate::line::Line;
+use arrayvec::ArrayString;
+use itoa::{Buffer, Integer};
 use proof_file::check::CheckedProof;
 
-mod line;
+// Appends a label and a number in decimal digits. No `write!`: by its contract it may fail, and printing a line cannot.
+fn append_entry<I: Integer>(text: &mut ArrayString<80>, label: &str, n: I)
+    requires { array_string_len text.old + (length label.now + I.MAX_STR_LEN) ≤ 80 }
+    ensures bytes { text.new.bytes ≡ text.old.bytes ++ (label.now ++ I.text n) }
+    ensures len { array_string_len text.new ≤ array_string_len text.old + (length label.now + I.MAX_STR_LEN) }
+{
+    text.push_str(label);
+    text.push_str(Buffer::new().format(n));
+}
 
 // What is told of a card: whether the score is at least the floor, and the bytes and plays of the proof.
-#[derive(Clone, Copy)]
-struct Card {
-    number: u32,
-    floor: u8,
-    yes: bool,
-    bytes: usize,
-    plays: u32,
-}
-
-fn verdict_word(yes: bool) -> &'static [u8]
-    ensures { result.now ≡ verdict_word yes }
+fn text_of(proof: &CheckedProof, card: u32) -> ArrayString<80>
+    ensures { result.bytes ≡ card_text card (proof_of proof.now).floor (proof_of proof.now).yes (proof_of proof.now).size (proof_of proof.now).plays }
 {
-    if yes { b"yes" } else { b"no" }
-}
-
-// A line with what is claimed of the card.
-fn claim(card: Card) -> Line
-    ensures is { LineIs result (claim_text card.number card.floor card.yes) }
-    ensures short { result.len ≤ 33 }
-{
-    let mut line = Line::new();
-    line.entry(b"card ", card.number as u64);
-    line.entry(b": at least ", card.floor as u64);
-    line.text(b" ");
-    line.text(verdict_word(card.yes));
-    line
-}
-
-// The whole line: what the proof costs goes after the claim.
-fn with_cost(claim: Line, card: Card) -> [u8; 80]
-    requires { (LineIs claim (claim_text card.number card.floor card.yes)) × (claim.len ≤ 33) }
-    ensures { result ≡ lined (card_text card.number card.floor card.yes card.bytes card.plays) }
-{
-    let mut line = claim;
-    line.entry(b", bytes ", card.bytes as u64);
-    line.entry(b", plays ", card.plays as u64);
-    line.bytes
+    let mut text = ArrayString::new();
+    append_entry(&mut text, "card ", card);
+    append_entry(&mut text, ": at least ", proof.floor());
+    text.push_str(if proof.yes() { " yes" } else { " no" });
+    append_entry(&mut text, ", bytes ", proof.length());
+    append_entry(&mut text, ", plays ", proof.plays());
+    text
 }
 
 // Prints the card's line into `out`, zeros after it, and uses the checked proof up: another line needs another check.
 pub fn print_card(proof: CheckedProof, card: u32, out: &mut [u8; 80])
     ensures { out.new ≡ lined (card_text card (proof_of proof).floor (proof_of proof).yes (proof_of proof).size (proof_of proof).plays) }
 {
-    let card = Card {
-        number: card,
-        floor: proof.floor(),
-        yes: proof.yes(),
-        bytes: proof.length(),
-        plays: proof.plays(),
-    };
-    *out = with_cost(claim(card), card);
+    let text = text_of(&proof, card);
+    let (front, rest) = out.split_at_mut(text.len());
+    front.copy_from_slice(text.as_bytes());
+    rest.fill(0);
 }
 
 // However wide its numbers are, the text of a card fits.

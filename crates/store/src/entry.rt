@@ -1,7 +1,7 @@
 // What the search records of a line, and the key under which it is recorded.
 
 // A position under a context word, and the floor that was asked for.
-#[derive(Clone, Copy, PartialEq, Eq, Debug)]
+#[derive(Clone, Copy, Default, PartialEq, Eq, Debug)]
 pub struct Key {
     pub a: u64,
     pub b: u64,
@@ -15,6 +15,8 @@ pub enum Finding {
     Verdict {
         yes: bool,
         independent: bool,
+        // The winning move, or 255 where no one move wins. No `Option`: a store may hand out any number here, and its reader tests
+        // it against the moves.
         best: u8,
     },
     Open {

@@ -1,8 +1,8 @@
 // The direct-mapped table: a store over a row of slots that is lent to it.
 //
 // A key has one slot. Recording overwrites what is there; probing shows what is there if every field of the key agrees.
-ghost use Rattle.std.specs.Prelude.{◌≡◌, ◌<◌, length};
-ghost use Rattle.store.specs.Slots.{emptied, hash, slot_of, shown_by};
+ghost use Rattle.std.specs.Prelude.{◌≡◌, ◌<◌, MatchOption};
+ghost use Rattle.store.specs.Slots.{emptied, hash, slot_of};
 ghost use Rattle.store.specs.Stores.{table_store};
 
 use crate::entry::{Entry, Key};
@@ -16,25 +16,15 @@ pub struct Table<'a> {
 fn hashed(key: Key) -> u64
     ensures { result ≡ hash key }
 {
-    key.a ^ key.b.rotate_left(21) ^ key.context.rotate_left(43) ^ key.floor as u64
+    key.a ^ key.b.rotate_left(21) ^ key.context.rotate_left(43) ^ u64::from(key.floor)
 }
 
-// The slot of a key in a row of `len`.
-fn slot_of(key: Key, len: usize) -> usize
-    requires { 0 < len }
-    ensures { result ≡ slot_of key len }
+// The slot of a key in a row of `len`; a row without slots has none.
+fn slot_of(key: Key, len: usize) -> Option<usize>
+    ensures { MatchOption result (len ≡ 0) (λ slot. (slot ≡ slot_of key len) × (slot < len)) }
 {
-    (hashed(key) % len as u64) as usize
-}
-
-// The entry of a slot, if it is the key's.
-fn matching(slot: Option<Entry>, key: Key) -> Option<Entry>
-    ensures { result ≡ shown_by slot key }
-{
-    match slot {
-        Some(entry) => { if entry.key == key { Some(entry) } else { None } }
-        None => None,
-    }
+    let slot = hashed(key).checked_rem(len as u64)?;
+    Some(slot as usize)
 }
 
 impl<'a> Table<'a> {
@@ -52,17 +42,13 @@ impl Store for Table<'_> {
     ghost store = { table_store };
 
     fn probe(&self, key: Key) -> Option<Entry> {
-        let len = self.slots.len();
-        if len == 0 {
-            return None;
-        }
-        matching(self.slots[slot_of(key, len)], key)
+        let slot = slot_of(key, self.slots.len())?;
+        self.slots[slot].filter(|entry| entry.key == key)
     }
 
     fn record(&mut self, entry: Entry) {
-        let len = self.slots.len();
-        if len > 0 {
-            self.slots[slot_of(entry.key, len)] = Some(entry);
+        if let Some(slot) = slot_of(entry.key, self.slots.len()) {
+            self.slots[slot] = Some(entry);
         }
     }
 

@@ -11,9 +11,7 @@ mod tests {
     use store::null::Null;
     use store::table::Table;
 
-    const ONES: u64 = 0xffff_ffff_ffff_ffff;
-
-    fn open(a: u64, b: u64, context: u64, floor: u8) -> Entry {
+    fn entry(a: u64, b: u64, context: u64, floor: u8, finding: Finding) -> Entry {
         Entry {
             key: Key {
                 a,
@@ -21,35 +19,26 @@ mod tests {
                 context,
                 floor,
             },
-            finding: Finding::Open { pn: 3, dn: 4 },
+            finding,
         }
+    }
+
+    fn open(a: u64, b: u64, context: u64, floor: u8) -> Entry {
+        entry(a, b, context, floor, Finding::Open { pn: 3, dn: 4 })
     }
 
     fn settled(a: u64, b: u64, context: u64, floor: u8) -> Entry {
-        Entry {
-            key: Key {
-                a,
-                b,
-                context,
-                floor,
-            },
-            finding: Finding::Verdict {
-                yes: true,
-                independent: false,
-                best: 7,
-            },
-        }
+        let finding = Finding::Verdict {
+            yes: true,
+            independent: false,
+            best: 7,
+        };
+        entry(a, b, context, floor, finding)
     }
 
     // The number of slots with an entry.
-    fn filled(row: &[Option<Entry>]) -> u8 {
-        let mut n = 0u8;
-        for slot in row {
-            if slot.is_some() {
-                n = n.wrapping_add(1);
-            }
-        }
-        n
+    fn filled(row: &[Option<Entry>]) -> usize {
+        row.iter().filter(|slot| slot.is_some()).count()
     }
 
     #[test]
@@ -165,7 +154,7 @@ mod tests {
     fn all_ones(rt: HostRuntime) {
         let mut row = [None; 7];
         let mut table = Table::new(&mut row);
-        let e = settled(ONES, ONES, ONES, 255);
+        let e = settled(u64::MAX, u64::MAX, u64::MAX, 255);
         table.record(e);
         assert_eq!(rt; table.probe(e.key), Some(e));
         assert_eq!(rt; row[5], Some(e));
