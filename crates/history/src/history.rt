@@ -98,6 +98,7 @@ impl<P: Copy> History<P> {
         ensures answer { refused_by result ≡ cond (nat_le 96 (length (line_of self.old))) 3 0 }
         ensures more { OnOk result (self.new ≡ step_more self.old number place) }
         ensures full { OnErr result (self.new ≡ self.old) }
+        ensures few { length (line_of self.new) ≤ 96 }
         ensures start { self.new.start ≡ self.old.start }
         ensures line { line_of self.new ≡ line_after (refused_by result) (number ∷ line_of self.old) (line_of self.old) }
         ensures legal { (m : Meaning) → Reachable m (line_of self.old) → number < (m.view (line_of self.old)).moves → Reachable m (line_of self.new) }
