@@ -58,14 +58,15 @@ fn first_bad(nodes: &[Node]) -> Option<usize>
     nodes.iter().position(|n| !node_good(nodes.len(), n))
 }
 
-// Where the nodes are found not to be a graph.
+// Where at most 64 nodes are found not to be a graph.
 fn fault(nodes: &[Node]) -> Option<usize>
+    requires { length nodes.now ≤ 64 }
     ensures { result ≡ graph_fault nodes.now }
 {
-    match nodes.len() {
-        0 => Some(0),
-        1..=64 => first_bad(nodes),
-        _ => Some(64),
+    if nodes.is_empty() {
+        Some(0)
+    } else {
+        first_bad(nodes)
     }
 }
 
@@ -97,14 +98,14 @@ impl Graph {
         ensures answer { refused_at result ≡ not_allowed (graph_fault nodes.now) }
         ensures made { elim result [ Ok c ↦ (graph c.nodes.items ≡ graph nodes.now) × (line_of c.history ≡ []) | Err e ↦ Unit {0} ] }
     {
+        let Ok(row) = ArrayVec::try_from(nodes) else {
+            return Err(PositionRefusal::NotAllowed { place: 64 });
+        };
         if let Some(place) = fault(nodes) {
             return Err(PositionRefusal::NotAllowed { place });
         }
-        let Ok(nodes) = ArrayVec::try_from(nodes) else {
-            unreachable!();
-        };
         Ok(Graph {
-            nodes,
+            nodes: row,
             history: History::new(0),
         })
     }
