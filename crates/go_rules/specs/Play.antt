@@ -1,5 +1,5 @@
 -- Atari Go as a game: what a line leads to, and what is told of it.
-use Rattle.std.specs.Prelude.{◌≡◌, ℕ, ◌+◌, ◌*◌, ◌^◌, ◌<◌, ◌≤◌, true, cond, List, [], ◌∷◌, reverse, length, take, Some, None, ◌==◌, slice_index, slice_index_or}
+use Rattle.std.specs.Prelude.{◌≡◌, ℕ, ◌+◌, ◌*◌, ◌^◌, true, cond, List, [], ◌∷◌, length, Some, None, ◌==◌, slice_index}
 use Rattle.game.specs.declared.kinds.Side.{Side}
 use Rattle.game.specs.declared.kinds.Side.TheVariants.{Black, White}
 use Rattle.game.specs.declared.kinds.Score.{Score}
@@ -76,23 +76,3 @@ abbrev pub Position : ℕ → Place → Type 0
 Position n x =
     OnBoard n x.black × OnBoard n x.white
     × (x.moves ≡ move_set n (by_side x.side x.black x.white) (by_side x.side x.white x.black))
-
--- two positions are the same, field by field
-abbrev pub SamePlace : Place → Place → Type 0
-SamePlace x y =
-    (x.black ≡ y.black) × (x.white ≡ y.white) × (number_of x.side ≡ number_of y.side) × (x.moves ≡ y.moves)
-
-abbrev pub place_at : List Place → ℕ → Place
-place_at xs j = slice_index_or xs j (record { black = 0; white = 0; side = Black; moves = 0 })
-
--- the line of the first i of the moves ks, which are listed the oldest first
-abbrev pub line_of : List ℕ → ℕ → Line
-line_of ks i = reverse (take i ks)
-
--- each of the first i of the moves ks was legal when it was played
-abbrev pub LegalMoves : ℕ → Place → List ℕ → ℕ → Type 0
-LegalMoves n start ks i = (j : ℕ) → j < i → slice_index ks j < length (moves_at n (standing n start (line_of ks j)))
-
--- stood has, for the line of the first i of the moves ks and for each of its prefixes, the position that it leads to
-abbrev pub Walked : ℕ → Place → List ℕ → List Place → ℕ → Type 0
-Walked n start ks stood i = (j : ℕ) → j ≤ i → SamePlace (place_at stood j) (standing n start (line_of ks j))

@@ -1,2 +1,2 @@
-pub mod Graphs
 pub mod Allowed
+pub mod Graphs

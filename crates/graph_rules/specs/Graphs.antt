@@ -1,6 +1,7 @@
 -- An explicit game graph: nodes with the side on turn, an end score or none, and one to four targets.
 -- The game starts at node 0.
-use Rattle.std.specs.Prelude.{◌≡◌, ℕ, ◌+◌, ◌<◌, ◌≤◌, Bool, true, cond, ◌&&◌, ◌||◌, List, [], ◌∷◌, ◌++◌, length, take, Some, None, Option, ◌==◌, nat_le, nat_lt, slice_index, slice_index_or}
+use Rattle.std.specs.Prelude.{ℕ, Bool, true, not, cond, ◌&&◌, List, [], ◌∷◌, length, take, Some, None, Option, ◌==◌, nat_le, nat_lt, slice_index, slice_index_or}
+use Rattle.std.specs.List.{list_all, position}
 use Rattle.game.specs.declared.kinds.Side.{Side}
 use Rattle.game.specs.declared.kinds.Side.TheVariants.{Black, White}
 use Rattle.game.specs.declared.kinds.Score.{Score}
@@ -9,28 +10,21 @@ use Rattle.game.specs.Meaning.{Line, View, Meaning}
 use Rattle.game.specs.Refusals.{Refused}
 use Rattle.graph_rules.specs.declared.node.Node.{Node}
 
--- target j is not counted, or is the number of a node
-abbrev pub target_good : ℕ → Node → ℕ → Bool
-target_good size n j = nat_le n.count j || nat_lt (slice_index n.targets j) size
-
 -- an end has a score of 0 to 2 and no targets, any other node the score 255 and one to four targets
 abbrev pub end_good : Node → Bool
 end_good n = cond (n.score == 255) (nat_le 1 n.count && nat_le n.count 4) (nat_le n.score 2 && n.count == 0)
 
+-- each target that is counted is the number of a node
 abbrev pub targets_good : ℕ → Node → Bool
-targets_good size n = (target_good size n 0 && target_good size n 1) && (target_good size n 2 && target_good size n 3)
+targets_good size n = list_all (λ t. nat_lt t size) (take n.count n.targets)
 
 abbrev pub node_good : ℕ → Node → Bool
 node_good size n = nat_le n.turn 1 && (end_good n && targets_good size n)
 
--- the first bad node, counted from i
-abbrev pub first_bad : ℕ → ℕ → List Node → Option ℕ
-first_bad size i [] = None
-first_bad size i (n ∷ ns) = cond (node_good size n) (first_bad size (i + 1) ns) (Some i)
-
 -- where a row of nodes is found not to be a graph: there are none, or more than 64, or one of them is bad
 abbrev pub graph_fault : List Node → Option ℕ
-graph_fault ns = cond (length ns == 0) (Some 0) (cond (nat_le (length ns) 64) (first_bad (length ns) 0 ns) (Some 64))
+graph_fault ns =
+    cond (length ns == 0) (Some 0) (cond (nat_le (length ns) 64) (position (λ n. not (node_good (length ns) n)) ns) (Some 64))
 
 -- a row of nodes that is no graph is a position that is not allowed, number 15
 abbrev pub not_allowed : Option ℕ → Option Refused
@@ -72,13 +66,3 @@ graph ns = record {
   view = λ l. node_view (standing ns l) (node_at ns (standing ns l));
   height = None;
 }
-
--- the line of moves that are listed the oldest first
-abbrev pub line_of : List ℕ → Line
-line_of [] = []
-line_of (k ∷ ks) = line_of ks ++ (k ∷ [])
-
--- stood has, for each prefix of the first n of the moves ks, the node that it leads to, which is one of the graph
-abbrev pub Walked : List Node → List ℕ → List ℕ → ℕ → Type 0
-Walked ns ks stood n =
-    (j : ℕ) → j ≤ n → (slice_index stood j ≡ standing ns (line_of (take j ks))) × (slice_index stood j < length ns)

@@ -1,15 +1,14 @@
-use Rattle.std.proofs.Common.{arith}
-use Rattle.go_rules.proofs.Walks.{walked_at, walked_here}
+use Rattle.std.proofs.Common.{◌^◌, ◌<◌, sym, subst}
+use Rattle.go_rules.specs.Play.{standing}
+use Rattle.go_rules.specs.declared.place.Place.{Place}
+use Rattle.go_rules.proofs.Walks.{few_moves, white_word}
 use Rattle.atari_go.proofs.atari.AtariGo.here.Goals as goal
 
-pub returns : goal.returns
-returns c =
+pub returns-clause-few : goal.returns-clause-few
+returns-clause-few c = let s = c.args.self.now in few_moves s.board.n s.board.high c.here.result
+
+pub returns-clause-white : goal.returns-clause-white
+returns-clause-white c =
     let s = c.args.self.now in
-    let at = walked_here s.board.n s.board.high s.start s.good s.numbers s.stood s.played s.long s.few s.legal s.walked
-    s.played (omega arith) in
-    record {
-      is = walked_at s.board.n s.board.high s.start s.good s.numbers s.stood s.played s.long s.few s.legal s.walked
-          s.played (omega arith);
-      few = at.moves;
-      white = at.white;
-    }
+    let is = c.here.ensures.stands (standing s.board.n s.history.start) s.follows in
+    subst (λ (x : Place). x.white < 2 ^ 49) (sym is) (white_word s.board.n s.board.high s.history.start s.good _ s.legal)
