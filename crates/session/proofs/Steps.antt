@@ -1,115 +1,102 @@
 -- The steps of a life, from what the calls of a session promise.
-use Rattle.std.proofs.Common.{◌≡◌, ℕ, suc, ◌-◌, ◌≤◌, min, List, [], ◌∷◌, length, take, Some, None, Ok, Err, Option, sym, refl, ap, ◌∙◌, subst, subst₂, ⊎_elim, arith}
-use Rattle.std.proofs.lemmas.List.{take_all}
-use Rattle.std.proofs.lemmas.Bool.{cases_lt}
+use Rattle.std.proofs.Common.{◌≡◌, ℕ, zero, suc, List, [], ◌∷◌, length, take, Some, None, Ok, Err, Option, Result, sym, refl, ap, ◌∙◌, subst}
 use Rattle.game.specs.declared.refusal.Refusal.{Refusal}
 use Rattle.game.specs.declared.refusal.Refusal.TheVariants.{NoSuchMove, LineOver, LineFull, AtStart}
 use Rattle.game.specs.Meaning.{Line, Meaning}
-use Rattle.game.specs.Refusals.{refusal_number, play_answer, line_after, played_line, back_answer, shorter}
+use Rattle.game.specs.Refusals.{refused_by, play_answer, line_after, played_line, back_answer, shorter}
 use Rattle.store.specs.Interface.{StoreMeaning}
 use Rattle.search_method.specs.declared.kinds.Answer.{Answer as Found}
 use Rattle.search_method.specs.declared.kinds.SolveRefusal.{SolveRefusal}
-use Rattle.search_method.specs.Refusals.{refusal_number as solve_number, refusal_due}
+use Rattle.search_method.specs.Refusals.{refusal_due}
 use Rattle.search_method.specs.Search.{solve as solving}
 use Rattle.search.specs.Solve.{Answers}
 use Rattle.search_method.specs.Tree.{Runs}
-use Rattle.proof_method.specs.Check.{Checked, check_in}
-use Rattle.proof_method.specs.Write.{Written, write_in, buffer}
+use Rattle.proof_method.specs.Check.{check_in}
+use Rattle.proof_method.specs.Write.{write_in, buffer}
+use Rattle.proof_writer.specs.declared.refusal.WriteRefusal.{WriteRefusal}
+use Rattle.proof_writer.specs.declared.write.Written.{Written as Proof}
+use Rattle.proof_writer.specs.Writing.{written_by}
+use Rattle.proof_file.specs.declared.fault.Fault.{Fault}
+use Rattle.proof_file.specs.declared.check.CheckedProof.{CheckedProof}
+use Rattle.proof_file.specs.Faults.{checked_by}
 use Rattle.life.specs.Life.{Memory, Call, Answer, Step}
 use Rattle.session.specs.declared.request.Request.{Request}
-use Rattle.session.specs.Requests.{Desk, call_of}
+use Rattle.session.specs.declared.request.Request.TheVariants.{Play, TakeBack, Clear, Solve, Write, Check, CheckWritten}
+use Rattle.session.specs.declared.request.Reply.TheVariants.{Moved, Solved, Written, Checked}
+use Rattle.session.specs.Requests.{Desk, call_of, answer_of}
 
-module _ {S : Type 0} (m : Meaning) (𝓢 : StoreMeaning S) (l k : Line) (s t : S) (same : t ≡ s) where
-  -- a step, with the line and the state written in another way
-  put : (c : Call) (a : Answer) (k' : Line) → k ≡ k' → Step m 𝓢 l s c a k' s → Step m 𝓢 l s c a k t
-  put c a k' e x = subst₂ (λ (j : Line) (u : S). Step m 𝓢 l s c a j u) (sym e) (sym same) x
+-- the answer to a move, by its number
+abbrev moved_by : ℕ → Answer
+moved_by zero = Answer.done
+moved_by (suc n) = Answer.refused (suc n)
 
-  pub played_step : (i : ℕ) → 0 ≡ play_answer m l i → k ≡ played_line m l i → Step m 𝓢 l s (Call.play i) Answer.done k t
-  played_step i e z = put (Call.play i) Answer.done (i ∷ l) (z ∙ ap (λ (r : ℕ). line_after r (i ∷ l) l) (sym e)) (Step.played (sym e))
+answers_moved : (b : List ℕ) (r : Result (Unit {0}) Refusal) → moved_by (refused_by r) ≡ answer_of b (Moved r)
+answers_moved b (Ok u) = refl
+answers_moved b (Err NoSuchMove) = refl
+answers_moved b (Err LineOver) = refl
+answers_moved b (Err LineFull) = refl
+answers_moved b (Err AtStart) = refl
 
-  refused_by_lem : (i n : ℕ) → suc n ≡ play_answer m l i → k ≡ played_line m l i → Step m 𝓢 l s (Call.play i) (Answer.refused (suc n)) k t
-  refused_by_lem i n e z =
-      put (Call.play i) (Answer.refused (suc n)) l (z ∙ ap (λ (r : ℕ). line_after r (i ∷ l) l) (sym e)) (Step.not_played (sym e))
+take_by : {S : Type 0} (m : Meaning) (𝓢 : StoreMeaning S) (s : S) (l : Line) → Step m 𝓢 l s Call.take_back (moved_by (back_answer l)) (shorter l) s
+take_by m 𝓢 s [] = Step.not_taken
+take_by m 𝓢 s (i ∷ l) = Step.taken_back
 
-  pub not_played_step : (i : ℕ) (r : Refusal) → refusal_number r ≡ play_answer m l i → k ≡ played_line m l i →
-      Step m 𝓢 l s (Call.play i) (Answer.refused (refusal_number r)) k t
-  not_played_step i NoSuchMove e z = refused_by_lem i 0 e z
-  not_played_step i LineOver e z = refused_by_lem i 1 e z
-  not_played_step i LineFull e z = refused_by_lem i 2 e z
-  not_played_step i AtStart e z = refused_by_lem i 3 e z
+-- at a session's line and store: a request q, made with this memory and desk, and the line and the store then
+module _ {S : Type 0} (m : Meaning) (𝓢 : StoreMeaning S) (l k : Line) (s t : S) (w : Memory) (d : Desk) (b : List ℕ) (q : Request) where
+  put : (c : Call) (k' : Line) (a a' : Answer) → call_of w d q ≡ c → k ≡ k' → t ≡ s → a' ≡ a → Step m 𝓢 l s c a' k' s →
+      Step m 𝓢 l s (call_of w d q) a k t
+  put c k' a a' call line state answer step = rw (call, line, state, ← answer) step
 
-  pub checked_step : (bytes : List ℕ) (budget : ℕ) (w : Memory) (r : Checked) → r ≡ check_in w.lines w.moves m l bytes budget → k ≡ l →
-      Step m 𝓢 l s (Call.check bytes budget w) (Answer.checked r) k t
-  checked_step bytes budget w r e z =
-      put (Call.check bytes budget w) (Answer.checked r) l z
-      (subst (λ (x : Checked). Step m 𝓢 l s (Call.check bytes budget w) (Answer.checked x) l s) (sym e) Step.walked)
+  play_by : (i n : ℕ) → n ≡ play_answer m l i → Step m 𝓢 l s (Call.play i) (moved_by n) (line_after n (i ∷ l) l) s
+  play_by i zero e = Step.played (sym e)
+  play_by i (suc n) e = Step.not_played (sym e)
 
-module _ {S : Type 0} (m : Meaning) (𝓢 : StoreMeaning S) where
-  pub taken_step : (l k : Line) (s t : S) → t ≡ s → 0 ≡ back_answer l → k ≡ shorter l → Step m 𝓢 l s Call.take_back Answer.done k t
-  taken_step [] k s t same e z = absurd (omega (arith, e))
-  taken_step (i ∷ l) k s t same e z = put m 𝓢 (i ∷ l) k s t same Call.take_back Answer.done l z Step.taken_back
+  pub play_step : (i : ℕ) (r : Result (Unit {0}) Refusal) → q ≡ Play i → refused_by r ≡ play_answer m l i → k ≡ played_line m l i → t ≡ s →
+      Step m 𝓢 l s (call_of w d q) (answer_of b (Moved r)) k t
+  play_step i r asked e line state =
+      put (Call.play i) (line_after (refused_by r) (i ∷ l) l) _ _ (ap (call_of w d) asked)
+      (subst (λ (n : ℕ). k ≡ line_after n (i ∷ l) l) (sym e) line) state (answers_moved b r) (play_by i (refused_by r) e)
 
-  one_refusal : (r : Refusal) → 1 ≤ refusal_number r
-  one_refusal NoSuchMove = omega arith
-  one_refusal LineOver = omega arith
-  one_refusal LineFull = omega arith
-  one_refusal AtStart = omega arith
+  pub take_step : (r : Result (Unit {0}) Refusal) → q ≡ TakeBack → refused_by r ≡ back_answer l → k ≡ shorter l → t ≡ s →
+      Step m 𝓢 l s (call_of w d q) (answer_of b (Moved r)) k t
+  take_step r asked e line state =
+      put Call.take_back (shorter l) _ _ (ap (call_of w d) asked) line state (ap moved_by (sym e) ∙ answers_moved b r) (take_by m 𝓢 s l)
 
-  pub not_taken_step : (l k : Line) (s t : S) (r : Refusal) → t ≡ s → refusal_number r ≡ back_answer l → k ≡ shorter l →
-      Step m 𝓢 l s Call.take_back (Answer.refused (refusal_number r)) k t
-  not_taken_step [] k s t r same e z =
-      subst (λ (n : ℕ). Step m 𝓢 [] s Call.take_back (Answer.refused n) k t) (sym e)
-      (put m 𝓢 [] k s t same Call.take_back (Answer.refused 4) [] z Step.not_taken)
-  not_taken_step (i ∷ l) k s t r same e z = absurd (omega (arith, e, one_refusal r))
+  pub clear_step : q ≡ Clear → 𝓢.clears s t → k ≡ l → Step m 𝓢 l s (call_of w d q) Answer.done k t
+  clear_step asked cleared line = rw (asked, line) (Step.cleared cleared)
 
-  pub cleared_step : (l k : Line) (s t : S) → 𝓢.clears s t → k ≡ l → Step m 𝓢 l s Call.clear Answer.done k t
-  cleared_step l k s t c z = subst (λ (j : Line). Step m 𝓢 l s Call.clear Answer.done j t) (sym z) (Step.cleared c)
+  solve_by : (floor budget : ℕ) (r : Result Found SolveRefusal) (due : Option ℕ) → refusal_due floor w.lines w.moves ≡ due →
+      Answers 𝓢 (solving m l floor budget) due s t r → Step m 𝓢 l s (Call.solve floor budget w) (answer_of b (Solved r)) l t
+  solve_by floor budget (Ok a) None e run = Step.solved e run
+  solve_by floor budget (Err r) None e run = absurd run
+  solve_by floor budget (Ok a) (Some n) e (no_refusal, state) = absurd cc
+  solve_by floor budget (Err r) (Some n) e (number, state) = rw (← state) (Step.not_solved (e ∙ sym number))
 
-  pub solved_step : (l k : Line) (s t : S) (floor budget : ℕ) (w : Memory) (a : Found) →
-      Answers 𝓢 (solving m l floor budget) (refusal_due floor w.lines w.moves) s t (Ok a) → k ≡ l →
-      Step m 𝓢 l s (Call.solve floor budget w) (Answer.found a) k t
-  solved_step l k s t floor budget w a x z = by (refusal_due floor w.lines w.moves) refl x
-    where
-      by : (o : Option ℕ) → refusal_due floor w.lines w.moves ≡ o → Answers 𝓢 (solving m l floor budget) o s t (Ok a) →
-          Step m 𝓢 l s (Call.solve floor budget w) (Answer.found a) k t
-      by None e run = subst (λ (j : Line). Step m 𝓢 l s (Call.solve floor budget w) (Answer.found a) j t) (sym z) (Step.solved e run)
-      by (Some n) e (no_answer, same) = let y : ◌≡◌ {A = ℕ} 0 1 = cc in absurd (omega arith)
+  pub solve_step : (floor budget : ℕ) (r : Result Found SolveRefusal) → q ≡ Solve floor budget →
+      Answers 𝓢 (solving m l floor budget) (refusal_due floor w.lines w.moves) s t r → k ≡ l →
+      Step m 𝓢 l s (call_of w d q) (answer_of b (Solved r)) k t
+  solve_step floor budget r asked answers line = rw (asked, line) (solve_by floor budget r (refusal_due floor w.lines w.moves) refl answers)
 
-  pub not_solved_step : (l k : Line) (s t : S) (floor budget : ℕ) (w : Memory) (r : SolveRefusal) →
-      Answers 𝓢 (solving m l floor budget) (refusal_due floor w.lines w.moves) s t (Err r) → k ≡ l →
-      Step m 𝓢 l s (Call.solve floor budget w) (Answer.refused (solve_number r)) k t
-  not_solved_step l k s t floor budget w r x z = by (refusal_due floor w.lines w.moves) refl x
-    where
-      by : (o : Option ℕ) → refusal_due floor w.lines w.moves ≡ o → Answers 𝓢 (solving m l floor budget) o s t (Err r) →
-          Step m 𝓢 l s (Call.solve floor budget w) (Answer.refused (solve_number r)) k t
-      by None e run = absurd run
-      by (Some n) e (number, same) =
-          put m 𝓢 l k s t (sym same) (Call.solve floor budget w) (Answer.refused (solve_number r)) l z (Step.not_solved (e ∙ sym number))
+  pub write_step : (floor budget : ℕ) (r : Result Proof WriteRefusal) → q ≡ Write floor budget →
+      Runs 𝓢 (write_in w.lines w.moves m l floor budget (length d.bytes)) s t (written_by b r) → b ≡ buffer d.bytes (written_by b r) → k ≡ l →
+      Step m 𝓢 l s (call_of w d q) (answer_of b (Written r)) k t
+  write_step floor budget r asked run e line =
+      rw (asked, line)
+      (subst (λ (x : List ℕ). Step m 𝓢 l s (Call.write floor budget d.bytes w) (Answer.wrote (written_by b r) x) l t) (sym e) (Step.written run))
 
-  pub written_step : (l k : Line) (s t : S) (floor budget : ℕ) (before after : List ℕ) (w : Memory) (r : Written) →
-      Runs 𝓢 (write_in w.lines w.moves m l floor budget (length before)) s t r → after ≡ buffer before r → k ≡ l →
-      Step m 𝓢 l s (Call.write floor budget before w) (Answer.wrote r after) k t
-  written_step l k s t floor budget before after w r run e z =
-      subst₂ (λ (b : List ℕ) (j : Line). Step m 𝓢 l s (Call.write floor budget before w) (Answer.wrote r b) j t) (sym e) (sym z) (Step.written run)
+  check_by : (bytes : List ℕ) (budget : ℕ) (r : Result CheckedProof Fault) → call_of w d q ≡ Call.check bytes budget w →
+      checked_by r ≡ check_in w.lines w.moves m l bytes budget → k ≡ l → t ≡ s →
+      Step m 𝓢 l s (call_of w d q) (answer_of b (Checked r)) k t
+  check_by bytes budget r call e line state = put (Call.check bytes budget w) l _ _ call line state (ap Answer.checked (sym e)) Step.walked
 
--- the first n of a list, and all where it has no more
-pub front : (xs : List ℕ) (n e : ℕ) → e ≡ min n (length xs) → take (e - 0) xs ≡ take n xs
-front xs n e z =
-    ⊎_elim
-    (λ short.
-    let same : e - 0 ≡ n = omega arith in
-    ap (λ (i : ℕ). take i xs) same)
-    (λ long.
-    let all : length xs ≤ e - 0 = omega arith in
-    take_all (e - 0) xs all ∙ sym (take_all n xs long))
-    (cases_lt n (length xs))
+  pub check_step : (n budget : ℕ) (bytes : List ℕ) (r : Result CheckedProof Fault) → q ≡ Check n budget → bytes ≡ take n d.bytes →
+      checked_by r ≡ check_in w.lines w.moves m l bytes budget → k ≡ l → t ≡ s →
+      Step m 𝓢 l s (call_of w d q) (answer_of b (Checked r)) k t
+  check_step n budget bytes r asked front e line state =
+      check_by bytes budget r (ap (call_of w d) asked ∙ ap (λ (x : List ℕ). Call.check x budget w) (sym front)) e line state
 
--- a step of the call that a request makes, with the request written in another way
-pub call_as : {S : Type 0} (m : Meaning) (𝓢 : StoreMeaning S) (l k : Line) (s t : S) (w : Memory) (d : Desk) (p q : Request) (a : Answer) →
-    q ≡ p → Step m 𝓢 l s (call_of w d p) a k t → Step m 𝓢 l s (call_of w d q) a k t
-call_as m 𝓢 l k s t w d p q a e x = subst (λ (y : Request). Step m 𝓢 l s (call_of w d y) a k t) (sym e) x
-
--- a step of a check, with its bytes written in another way
-pub check_as : {S : Type 0} (m : Meaning) (𝓢 : StoreMeaning S) (l k : Line) (s t : S) (xs ys : List ℕ) (budget : ℕ) (w : Memory) (a : Answer) →
-    xs ≡ ys → Step m 𝓢 l s (Call.check xs budget w) a k t → Step m 𝓢 l s (Call.check ys budget w) a k t
-check_as m 𝓢 l k s t xs ys budget w a e x = subst (λ (zs : List ℕ). Step m 𝓢 l s (Call.check zs budget w) a k t) e x
+  pub check_written_step : (budget : ℕ) (bytes : List ℕ) (r : Result CheckedProof Fault) → q ≡ CheckWritten budget → bytes ≡ take d.written d.bytes →
+      checked_by r ≡ check_in w.lines w.moves m l bytes budget → k ≡ l → t ≡ s →
+      Step m 𝓢 l s (call_of w d q) (answer_of b (Checked r)) k t
+  check_written_step budget bytes r asked front e line state =
+      check_by bytes budget r (ap (call_of w d) asked ∙ ap (λ (x : List ℕ). Call.check x budget w) (sym front)) e line state

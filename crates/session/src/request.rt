@@ -19,16 +19,19 @@ pub enum Request {
     CheckWritten { budget: u32 },
 }
 
-// What a call answered; `NotMade` stands where no call was made. An accepted proof is handed out to the caller.
+// What a call answered. An accepted proof is handed out to the caller.
 #[derive(Drop)]
 pub enum Reply {
-    NotMade,
-    Done,
-    Refused(Refusal),
-    Solved(Answer),
-    NotSolved(SolveRefusal),
-    Wrote(Written),
-    NotWritten(WriteRefusal),
-    Accepted(CheckedProof),
-    Faulty(Fault),
+    Moved(Result<(), Refusal>),
+    Cleared,
+    Solved(Result<Answer, SolveRefusal>),
+    Written(Result<Written, WriteRefusal>),
+    Checked(Result<CheckedProof, Fault>),
+}
+
+// A request, and its reply once the call is made.
+#[derive(Drop)]
+pub struct Exchange {
+    pub request: Request,
+    pub reply: Option<Reply>,
 }

@@ -82,6 +82,8 @@ impl<G: Bounded, S: Store> Session<G, S> {
     ) -> Result<Answer, SolveRefusal>
         ensures answers { Answers S.Store.store (solving (G.Game.means self.old.game) (G.Game.line self.old.game) floor budget) (refusal_due floor (length memory.old.lines.now) (length memory.old.moves.now)) self.old.store self.new.store result }
         ensures within { Within budget result }
+        ensures lines { length memory.new.lines.now ≡ length memory.old.lines.now }
+        ensures moves { length memory.new.moves.now ≡ length memory.old.moves.now }
         ensures same { G.Game.means self.new.game ≡ G.Game.means self.old.game }
         ensures back { G.Game.line self.new.game ≡ G.Game.line self.old.game }
     {
@@ -99,6 +101,8 @@ impl<G: Bounded, S: Store> Session<G, S> {
         ensures is { Runs S.Store.store (write_in (length memory.old.lines.now) (length memory.old.moves.now) (G.Game.means self.old.game) (G.Game.line self.old.game) floor budget (length out.old)) self.old.store self.new.store (written_by out.new result) }
         ensures buffer { out.new ≡ buffer out.old (written_by out.new result) }
         ensures fits { Fits out.new result }
+        ensures lines { length memory.new.lines.now ≡ length memory.old.lines.now }
+        ensures moves { length memory.new.moves.now ≡ length memory.old.moves.now }
         ensures same { G.Game.means self.new.game ≡ G.Game.means self.old.game }
         ensures back { G.Game.line self.new.game ≡ G.Game.line self.old.game }
     {

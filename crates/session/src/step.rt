@@ -1,7 +1,6 @@
 // One request of a session.
-ghost use Rattle.std.specs.Prelude.{◌≡◌, ℕ, List, length, take};
-ghost use Rattle.life.specs.Life.{play as playing, take_back as taking_back, clear as clearing, solve as solving, write as writing, check as checking};
-ghost use Rattle.session.specs.Requests.{Desk, desk, room, call_of, answer_of, Leaves};
+ghost use Rattle.std.specs.Prelude.{◌≡◌, take};
+ghost use Rattle.session.specs.Requests.{desk_of, room_of, call_of, answer_of, Leaves};
 ghost use Rattle.session.specs.Runs.{Makes};
 
 use crate::request::{Reply, Request};
@@ -10,131 +9,62 @@ use game::interface::Bounded;
 use search::memory::SearchMemory;
 use store::interface::Store;
 
-fn play_request<G: Bounded, S: Store>(session: &mut Session<G, S>, k: u32) -> Reply
-    ensures same { G.Game.means session.new.game ≡ G.Game.means session.old.game }
-    ensures step { (b : List ℕ) → Makes G.Game.means G.Game.line S.Store.store session.old (playing k) (answer_of b result) session.new }
-    ensures quiet { (d : Desk) → Leaves result d d }
-{
-    match session.play(k) {
-        Ok(()) => Reply::Done,
-        Err(refusal) => Reply::Refused(refusal),
+// The buffer that is lent to all calls, and how many of its first bytes the last write put there.
+#[derive(Drop)]
+pub(crate) struct Desk<'a> {
+    pub(crate) bytes: &'a mut [u8],
+    pub(crate) written: usize,
+}
+
+impl Desk<'_> {
+    // The first bytes, or all where there are no more.
+    fn front(&self, count: usize) -> &[u8]
+        ensures { result.now ≡ take count self.now.bytes.now }
+    {
+        &self.bytes[..count.min(self.bytes.len())]
+    }
+
+    // The bytes that the last write put there.
+    fn last_written(&self) -> &[u8]
+        ensures { result.now ≡ take self.now.written self.now.bytes.now }
+    {
+        self.front(self.written)
     }
 }
 
-fn take_back_request<G: Bounded, S: Store>(session: &mut Session<G, S>) -> Reply
-    ensures same { G.Game.means session.new.game ≡ G.Game.means session.old.game }
-    ensures step { (b : List ℕ) → Makes G.Game.means G.Game.line S.Store.store session.old taking_back (answer_of b result) session.new }
-    ensures quiet { (d : Desk) → Leaves result d d }
-{
-    match session.take_back() {
-        Ok(()) => Reply::Done,
-        Err(refusal) => Reply::Refused(refusal),
-    }
-}
-
-fn clear_request<G: Bounded, S: Store>(session: &mut Session<G, S>) -> Reply
-    ensures same { G.Game.means session.new.game ≡ G.Game.means session.old.game }
-    ensures step { (b : List ℕ) → Makes G.Game.means G.Game.line S.Store.store session.old clearing (answer_of b result) session.new }
-    ensures quiet { (d : Desk) → Leaves result d d }
-{
-    session.clear();
-    Reply::Done
-}
-
-fn solve_request<G: Bounded, S: Store>(
-    session: &mut Session<G, S>,
-    floor: u32,
-    budget: u32,
-    memory: &mut SearchMemory<'_>,
-) -> Reply
-    ensures same { G.Game.means session.new.game ≡ G.Game.means session.old.game }
-    ensures step { (b : List ℕ) → Makes G.Game.means G.Game.line S.Store.store session.old (solving floor budget (room (length memory.old.lines.now) (length memory.old.moves.now))) (answer_of b result) session.new }
-    ensures quiet { (d : Desk) → Leaves result d d }
-{
-    match session.solve(floor, budget, memory) {
-        Ok(answer) => Reply::Solved(answer),
-        Err(refusal) => Reply::NotSolved(refusal),
-    }
-}
-
-// Writes into the whole buffer, and notes how many bytes it put there.
-fn write_request<G: Bounded, S: Store>(
-    session: &mut Session<G, S>,
-    floor: u32,
-    budget: u32,
-    bytes: &mut [u8],
-    written: &mut usize,
-    memory: &mut SearchMemory<'_>,
-) -> Reply
-    ensures same { G.Game.means session.new.game ≡ G.Game.means session.old.game }
-    ensures step { Makes G.Game.means G.Game.line S.Store.store session.old (writing floor budget bytes.old (room (length memory.old.lines.now) (length memory.old.moves.now))) (answer_of bytes.new result) session.new }
-    ensures leaves { Leaves result (desk bytes.old written.old) (desk bytes.new written.new) }
-{
-    match session.write(floor, budget, memory, bytes) {
-        Ok(proof) => {
-            *written = proof.length;
-            Reply::Wrote(proof)
+impl<G: Bounded, S: Store> Session<G, S> {
+    // Makes one request.
+    pub(crate) fn make(
+        &mut self,
+        request: Request,
+        desk: &mut Desk<'_>,
+        memory: &mut SearchMemory<'_>,
+    ) -> Reply
+        ensures same { G.Game.means self.new.game ≡ G.Game.means self.old.game }
+        ensures step { Makes G.Game.means G.Game.line S.Store.store self.old (call_of (room_of memory.old) (desk_of desk.old) request) (answer_of desk.new.bytes.now result) self.new }
+        ensures leaves { Leaves result (desk_of desk.old) (desk_of desk.new) }
+        ensures same_buffer { desk.new.bytes.ghost_name ≡ desk.old.bytes.ghost_name }
+        ensures room { room_of memory.new ≡ room_of memory.old }
+    {
+        match request {
+            Request::Play { k } => Reply::Moved(self.play(k)),
+            Request::TakeBack => Reply::Moved(self.take_back()),
+            Request::Clear => {
+                self.clear();
+                Reply::Cleared
+            }
+            Request::Solve { floor, budget } => { Reply::Solved(self.solve(floor, budget, memory)) }
+            Request::Write { floor, budget } => {
+                let written = self.write(floor, budget, memory, desk.bytes);
+                desk.written = written.map_or(0, |proof| proof.length);
+                Reply::Written(written)
+            }
+            Request::Check { length, budget } => {
+                Reply::Checked(self.check(desk.front(length), budget, memory))
+            }
+            Request::CheckWritten { budget } => {
+                Reply::Checked(self.check(desk.last_written(), budget, memory))
+            }
         }
-        Err(refusal) => {
-            *written = 0;
-            Reply::NotWritten(refusal)
-        }
-    }
-}
-
-fn check_bytes<G: Bounded, S: Store>(
-    session: &mut Session<G, S>,
-    proof: &[u8],
-    budget: u32,
-    memory: &mut SearchMemory<'_>,
-) -> Reply
-    ensures same { G.Game.means session.new.game ≡ G.Game.means session.old.game }
-    ensures step { (b : List ℕ) → Makes G.Game.means G.Game.line S.Store.store session.old (checking proof.now budget (room (length memory.old.lines.now) (length memory.old.moves.now))) (answer_of b result) session.new }
-    ensures quiet { (d : Desk) → Leaves result d d }
-{
-    match session.check(proof, budget, memory) {
-        Ok(proof) => Reply::Accepted(proof),
-        Err(fault) => Reply::Faulty(fault),
-    }
-}
-
-// The first bytes of the buffer, or all where it has no more.
-fn check_request<G: Bounded, S: Store>(
-    session: &mut Session<G, S>,
-    bytes: &[u8],
-    count: usize,
-    budget: u32,
-    memory: &mut SearchMemory<'_>,
-) -> Reply
-    ensures same { G.Game.means session.new.game ≡ G.Game.means session.old.game }
-    ensures step { (b : List ℕ) → Makes G.Game.means G.Game.line S.Store.store session.old (checking (take count bytes.now) budget (room (length memory.old.lines.now) (length memory.old.moves.now))) (answer_of b result) session.new }
-    ensures quiet { (d : Desk) → Leaves result d d }
-{
-    let end = count.min(bytes.len());
-    check_bytes(session, &bytes[0..end], budget, memory)
-}
-
-// Makes one request.
-pub(crate) fn make<G: Bounded, S: Store>(
-    session: &mut Session<G, S>,
-    request: Request,
-    bytes: &mut [u8],
-    written: &mut usize,
-    memory: &mut SearchMemory<'_>,
-) -> Reply
-    ensures same { G.Game.means session.new.game ≡ G.Game.means session.old.game }
-    ensures step { Makes G.Game.means G.Game.line S.Store.store session.old (call_of (room (length memory.old.lines.now) (length memory.old.moves.now)) (desk bytes.old written.old) request) (answer_of bytes.new result) session.new }
-    ensures leaves { Leaves result (desk bytes.old written.old) (desk bytes.new written.new) }
-{
-    match request {
-        Request::Play { k } => play_request(session, k),
-        Request::TakeBack => take_back_request(session),
-        Request::Clear => clear_request(session),
-        Request::Solve { floor, budget } => solve_request(session, floor, budget, memory),
-        Request::Write { floor, budget } => write_request(
-            session, floor, budget, bytes, written, memory,
-        ),
-        Request::Check { length, budget } => check_request(session, bytes, length, budget, memory),
-        Request::CheckWritten { budget } => check_request(session, bytes, *written, budget, memory),
     }
 }
