@@ -5,6 +5,7 @@
 use atari_go::atari::AtariGo;
 use game::interface::Game;
 use std::{env, io};
+use texts::number;
 
 // Walks d moves deep below the present line with this many plays left, and tells how many are left then.
 fn walk<G: Game>(game: &mut G, d: u32, plays: u64) -> u64 {
@@ -12,8 +13,7 @@ fn walk<G: Game>(game: &mut G, d: u32, plays: u64) -> u64 {
     if d == 0 {
         return left;
     }
-    let moves = game.moves();
-    for k in 0..moves {
+    for k in 0..game.moves() {
         if left > 0 && game.play(k).is_ok() {
             left = walk(game, d - 1, left - 1);
             let _ = game.take_back();
@@ -25,53 +25,25 @@ fn walk<G: Game>(game: &mut G, d: u32, plays: u64) -> u64 {
 // The plays of a walk from the position of a text; 0 where it is refused.
 fn plays(text: &[u8], limit: u64) -> u64 {
     match AtariGo::read(text) {
-        Ok(g) => {
-            let mut game = g;
-            limit.saturating_sub(walk(&mut game, 49, limit))
-        }
+        Ok(mut game) => limit.saturating_sub(walk(&mut game, 49, limit)),
         Err(_) => 0,
     }
 }
 
-// A decimal number below 2^64.
-fn number(digits: &[u8]) -> Option<u64> {
-    if digits.is_empty() {
-        return None;
-    }
-    let mut n: u64 = 0;
-    for b in digits {
-        match *b {
-            b'0'..=b'9' => {
-                n = n.checked_mul(10)?.checked_add(u64::from(*b - b'0'))?;
-            }
-            _ => return None,
-        }
-    }
-    Some(n)
-}
-
 // The number of plays that the command line asks for; 200000 where it has no number.
 fn read_limit(rt: &HostRuntime) -> io::Result<u64> {
-    let mut limit = 200000;
-    let mut program = true;
-    for word in env::args(rt)? {
-        if program {
-            program = false;
-        } else if let Some(n) = number(word.as_bytes()) {
-            limit = n;
-        }
-    }
-    Ok(limit)
+    Ok(
+        env::args(rt)?
+            .skip(1)
+            .filter_map(|word| number(&word))
+            .last()
+            .unwrap_or(200_000),
+    )
 }
 
 // Walks, and prints the number of plays made.
-fn run(rt: &HostRuntime) -> anyhow::Result<()> {
-    let limit = read_limit(rt)?;
-    let made = plays(b"G4:B:.....BW..WB.....", limit);
+fn main(rt: HostRuntime) -> anyhow::Result<()> {
+    let made = plays(b"G4:B:.....BW..WB.....", read_limit(&rt)?);
     println!(rt; "{made}")?;
     Ok(())
-}
-
-fn main(rt: HostRuntime) -> anyhow::Result<()> {
-    run(&rt)
 }

@@ -3,53 +3,66 @@
 // Each line of standard input is a case: a position, rule layers over it, a store, and questions. The questions of a case
 // are asked in order of one game and one store, and each gets a line of output. tools/README.md has the format.
 //
-// `text` and `hex` read fields, numbers and bytes, `case` a case, `ask` a question and puts it to the search, to the writer of
-// proofs or to their check; `main` prints.
+// `case` reads a case, `ask` a question and puts it to the search, to the writer of proofs or to their check; `main` prints.
 #![tactic(auto)]
 
 mod ask;
 mod case;
-mod hex;
-mod text;
 mod trouble;
 
-use crate::ask::{answer_to, memory_in, question_of};
+use crate::ask::{answer_to, question_of};
 use crate::case::{Case, Rules, case_of, nodes_of};
-use crate::text::field_of;
 use atari_go::atari::AtariGo;
 use game::interface::{Bounded, Game, Layer};
+use game::refusal::PositionRefusal;
 use graph::graph::Graph;
 use layers::limit::Limit;
 use layers::repeat::Repeat;
+use search::memory::LineRecord;
+use search_method::kinds::Pair;
+use search_method::memory::WorkMemory;
 use std::io;
 use std::io::{BufRead, BufReader};
-use store::entry::Entry;
+use store::entry::{Entry, Key};
 use store::interface::Store;
 use store::null::Null;
 use store::table::Table;
+
+const NO_PAIR: Pair = Pair { pn: 0, dn: 0 };
+
+const NO_RECORD: LineRecord = LineRecord {
+    key: Key {
+        a: 0,
+        b: 0,
+        context: 0,
+        floor: 0,
+    },
+    black: false,
+    independent: false,
+    limit: NO_PAIR,
+};
 
 // Puts the questions of a case to one game and one store.
 fn ask_all<G: Bounded, S: Store>(
     rt: &HostRuntime,
     game: &mut G,
     store: &mut S,
-    questions: &[u8],
+    questions: &[&str],
 ) -> io::Result<()> {
-    let mut memory = memory_in(rt.alloc())?;
-    let mut rest = questions;
-    for _ in 0..questions.len() {
-        if rest.is_empty() {
-            break;
-        }
-        let (field, more) = field_of(rest);
-        match question_of(rt.alloc(), field) {
+    let mut lines = vec![in rt.alloc(); NO_RECORD; 97]?;
+    let mut moves = vec![in rt.alloc(); NO_PAIR; 6_208]?;
+    let mut memory = WorkMemory {
+        lines: &mut lines,
+        moves: &mut moves,
+    };
+    for text in questions {
+        match question_of(rt.alloc(), text) {
             Ok(question) => {
                 let reply = answer_to(rt.alloc(), game, store, &mut memory, &question)?;
                 println!(rt; "{reply}")?;
             }
-            Err(e) => println!(rt; "{}", e.words())?,
+            Err(trouble) => println!(rt; "{trouble}")?,
         }
-        rest = more;
     }
     Ok(())
 }
@@ -110,38 +123,53 @@ fn under_rules<G: Bounded + Drop, S: Store>(
     }
 }
 
+fn print_refused(rt: &HostRuntime, refusal: PositionRefusal) -> io::Result<()> {
+    println!(rt; "refused {} {}", refusal.number(), refusal.place())
+}
+
 fn on_graph<S: Store>(
     rt: &HostRuntime,
-    nodes: &[u8],
+    nodes: &str,
     store: &mut S,
     case: Case<'_>,
 ) -> io::Result<()> {
     let nodes = match nodes_of(rt.alloc(), nodes) {
         Ok(nodes) => nodes,
-        Err(e) => return println!(rt; "{}", e.words()),
+        Err(trouble) => return println!(rt; "{trouble}"),
     };
     match Graph::new(&nodes) {
         Ok(game) => under_limit(rt, game, store, case),
-        Err(e) => println!(rt; "refused {} {}", e.number(), e.place()),
+        Err(refusal) => print_refused(rt, refusal),
     }
 }
 
 fn on_board<S: Store>(rt: &HostRuntime, store: &mut S, case: Case<'_>) -> io::Result<()> {
-    match AtariGo::read(case.position) {
+    match AtariGo::read(case.position.as_bytes()) {
         Ok(game) => under_rules(rt, game, store, case),
-        Err(e) => println!(rt; "refused {} {}", e.number(), e.place()),
+        Err(refusal) => print_refused(rt, refusal),
     }
 }
 
 fn on_position<S: Store>(rt: &HostRuntime, store: &mut S, case: Case<'_>) -> io::Result<()> {
-    match case.position.strip_prefix(b"graph:") {
+    match case.position.strip_prefix("graph:") {
         Some(nodes) => on_graph(rt, nodes, store, case),
         None => on_board(rt, store, case),
     }
 }
 
-fn answer(rt: &HostRuntime, text: &[u8]) -> io::Result<()> {
-    let Some(case) = case_of(text) else {
+// Answers a line, unless it is blank or a comment.
+fn answer(rt: &HostRuntime, text: &str) -> io::Result<()> {
+    let fields: Vec<&str> = text
+        .split(' ')
+        .filter(|field| !field.is_empty())
+        .collect(rt.alloc())?;
+    let Some((position, terms)) = fields.split_first() else {
+        return Ok(());
+    };
+    if position.starts_with('#') {
+        return Ok(());
+    }
+    let Some(case) = case_of(position, terms) else {
         return println!(rt; "malformed");
     };
     let Some(slots) = case.slots else {
@@ -151,18 +179,9 @@ fn answer(rt: &HostRuntime, text: &[u8]) -> io::Result<()> {
     on_position(rt, &mut Table::new(&mut row), case)
 }
 
-// Neither blank nor a comment.
-fn is_case(text: &[u8]) -> bool {
-    let (field, _) = field_of(text);
-    !field.is_empty() && !field.starts_with(b"#")
-}
-
 fn main(rt: HostRuntime) -> io::Result<()> {
     for line in BufReader::new(rt.alloc(), rt.stdin())?.lines(rt.alloc()) {
-        let text = line?;
-        if is_case(text.as_bytes()) {
-            answer(&rt, text.as_bytes())?;
-        }
+        answer(&rt, &line?)?;
     }
     Ok(())
 }

@@ -1,29 +1,21 @@
 // Why a line gets no answer.
-use std::alloc::{AllocError, AllocFailed};
+use hex::FromHexError;
+use std::alloc::AllocError;
+use thiserror::Error;
 
-#[derive(Clone, Copy, PartialEq, Eq, Debug)]
+#[derive(Clone, Copy, PartialEq, Eq, Debug, Error)]
 pub(crate) enum Trouble {
+    #[error("malformed")]
     Malformed,
-    NoMemory,
+    #[error("no memory")]
+    NoMemory(#[from(alloc)] AllocError),
 }
 
-impl From<AllocError> for Trouble {
-    fn from(_e: AllocError) -> Trouble {
-        Trouble::NoMemory
-    }
-}
-
-impl<T: Drop> From<AllocFailed<T>> for Trouble {
-    fn from(_e: AllocFailed<T>) -> Trouble {
-        Trouble::NoMemory
-    }
-}
-
-impl Trouble {
-    pub(crate) fn words(self) -> &'static str {
-        match self {
-            Trouble::Malformed => "malformed",
-            Trouble::NoMemory => "no memory",
+impl From<FromHexError> for Trouble {
+    fn from(error: FromHexError) -> Trouble {
+        match error {
+            FromHexError::OutOfMemory => Trouble::NoMemory(AllocError),
+            _ => Trouble::Malformed,
         }
     }
 }
