@@ -1,19 +1,12 @@
 -- The laws of a game in which repetition is a draw.
-use Rattle.std.proofs.Common.{◌≡◌, ℕ, ◌+◌, ◌<◌, ◌≤◌, Bool, true, false, ◌&&◌, ◌||◌, eqb, [], ◌∷◌, ◌++◌, length, sym, refl, ap, ◌∙◌, ap₂, arith, eq-eqb, ne_eqb, eqb-true}
-use borrow.Author.Tests.{eqb-false, not-true}
-use Rattle.std.proofs.lemmas.Bool.{and_parts, or_parts, or_from}
+use Rattle.std.proofs.Common.{◌≡◌, ℕ, ◌<◌, ◌≤◌, Bool, true, false, ◌&&◌, ◌||◌, eqb, [], ◌∷◌, ◌++◌, length, sym, refl, ap, ◌∙◌, ap₂, arith}
+use Rattle.std.proofs.lemmas.Bool.{and_parts, or_parts, or_from, not-true}
 use Rattle.game.specs.Meaning.{Line, Meaning, Reachable, Bisimilar}
 use Rattle.game.specs.Laws.{Lawful, Present, BoundedBy, Bounded, Room}
-use Rattle.layer_rules.specs.Layers.{same_position, has_position, has_level, repeat_layer, repeated}
-use Rattle.game.specs.declared.kinds.Words.{Words}
-use Rattle.game.specs.Prefixes.{prefix, words_of}
-use Rattle.game.proofs.Prefixes.{any_none, any_hit, any_miss}
-use Rattle.layer_rules.proofs.Layers.{below, open_below, layered_fit, layered_lawful, layered_bounded, Agreeing}
-
-one_fails : (s t : Bool) → (s ≡ true → t ≡ true → ⊥) → (s && t) ≡ false
-one_fails true true h = absurd (h refl refl)
-one_fails true false h = refl
-one_fails false t h = refl
+use Rattle.layer_rules.specs.Layers.{has_position, has_level, repeat_layer, repeated}
+use Rattle.game.specs.Prefixes.{prefix, any_prefix}
+use Rattle.game.proofs.Prefixes.{prefix_all, prefix_of, any_hit}
+use Rattle.layer_rules.proofs.Layers.{below, layered_present, layered_lawful, layered_bounded, Agreeing}
 
 module _ (m : Meaning) (law : Lawful m) where
   -- where no prefix of s has the level v, and x has v or less, no prefix of s has the position words of x
@@ -24,12 +17,9 @@ module _ (m : Meaning) (law : Lawful m) where
   none_before x (k ∷ r) v rx rs low high new =
       let parts = or_parts (eqb (m.view r).level v) (has_level m v r) new in
       let falls = law.falls (k ∷ []) r rs in
-      or_from _ _
-      (one_fails _ _
-      (λ e f.
-      let same = law.levels r x rs.0 rx (eqb-true _ _ e) (eqb-true _ _ f) in
-      eqb-false (m.view r).level v parts.0 (omega arith)))
-      (none_before x r v rx rs.0 low (omega arith) parts.1)
+      let same = law.levels r x rs.0 rx in
+      let before = none_before x r v rx rs.0 low (omega arith) parts.1 in
+      grind arith
 
   -- continuations of bisimilar lines, as far as the two lines themselves matter not
   same_within :
@@ -77,10 +67,7 @@ module _ (m : Meaning) (law : Lawful m) where
       layered_lawful m (repeat_layer m) law (λ l r. (law.fit l (below m (repeat_layer m) l r)).context) repeated_agreeing
 
 pub repeated_present : (m : Meaning) (l : Line) → Present m l → Present (repeated m) l
-repeated_present m l here = record {
-  fit = layered_fit (m.view l) _ _ _ here.fit here.fit.context;
-  short = here.short;
-}
+repeated_present m l here = layered_present m (repeat_layer m) l here here.fit.context
 
 pub repeated_bounded : (m : Meaning) (h : ℕ) → BoundedBy m h → BoundedBy (repeated m) h
 repeated_bounded m h = layered_bounded m (repeat_layer m) h refl
@@ -89,28 +76,17 @@ pub repeated_height : (m : Meaning) → Bounded m → Bounded (repeated m)
 repeated_height m bounded = (bounded.0, repeated_bounded m bounded.0 bounded.1)
 
 pub repeated_room : (m : Meaning) (l : Line) → Room m l → Room (repeated m) l
-repeated_room m l room going = room (open_below (m.view l).score _ going)
+repeated_room m l room going = room (grind arith)
 
--- the search for a prefix with the position words of the line, or with its level, by the words w of the prefix of n moves
-module _ (m : Meaning) (l : Line) where
-  module _ (a b : ℕ) where
-    pub position_none : has_position m a b (prefix 0 l) ≡ false
-    position_none = any_none _ l
+-- a search among the prefixes of a line that finds the one of n moves, or none
+any_fails : (f : Line → Bool) (l : Line) → ((n : ℕ) → n < length l → f (prefix n l) ≡ false) → any_prefix f l ≡ false
+any_fails f [] none = refl
+any_fails f (k ∷ l) none =
+    or_from _ _
+    (ap f (sym (prefix_of (length l) k l (omega arith) ∙ prefix_all (length l) l (omega arith))) ∙ none (length l) (omega arith))
+    (any_fails f l (λ n less. ap f (sym (prefix_of n k l (omega arith))) ∙ none n (omega arith)))
 
-    pub position_hit : (n : ℕ) (w : Words) → n < length l → w ≡ words_of m (prefix n l) → same_position w a b ≡ true → has_position m a b l ≡ true
-    position_hit n w h is e = any_hit _ n l h (sym (ap (λ (w : Words). same_position w a b) is) ∙ e)
-
-    pub position_miss : (n : ℕ) (w : Words) → n < length l → w ≡ words_of m (prefix n l) → same_position w a b ≡ false →
-        has_position m a b (prefix n l) ≡ false → has_position m a b (prefix (n + 1) l) ≡ false
-    position_miss n w h is e = any_miss _ n l h (sym (ap (λ (w : Words). same_position w a b) is) ∙ e)
-
-  module _ (v : ℕ) where
-    pub level_none : has_level m v (prefix 0 l) ≡ false
-    level_none = any_none _ l
-
-    pub level_hit : (n : ℕ) (w : Words) → n < length l → w ≡ words_of m (prefix n l) → w.level ≡ v → has_level m v l ≡ true
-    level_hit n w h is e = any_hit _ n l h (eq-eqb _ _ (sym (ap (λ (w : Words). w.level) is) ∙ e))
-
-    pub level_miss : (n : ℕ) (w : Words) → n < length l → w ≡ words_of m (prefix n l) → (w.level ≡ v → ⊥) →
-        has_level m v (prefix n l) ≡ false → has_level m v (prefix (n + 1) l) ≡ false
-    level_miss n w h is ne = any_miss _ n l h (ne_eqb _ _ (λ e. ne (ap (λ (w : Words). w.level) is ∙ e)))
+pub any_found : (f : Line → Bool) (l : Line) (found : Bool) → (found ≡ true → (n : ℕ) × (n < length l) × (f (prefix n l) ≡ true)) →
+    (found ≡ false → (n : ℕ) → n < length l → f (prefix n l) ≡ false) → found ≡ any_prefix f l
+any_found f l true hit miss = let h = hit refl in sym (any_hit f h.0 l h.1 h.2)
+any_found f l false hit miss = sym (any_fails f l (miss refl))

@@ -46,30 +46,20 @@ mod tests {
         Graph::new(&[going(0, 1, 0, 0)])
     }
 
-    // Plays the moves, and tells whether all of them were accepted.
+    // Plays the moves until one is refused, and tells whether all of them were accepted.
     fn walk<G: Game>(game: &mut G, moves: &[u32]) -> bool {
-        let mut all = true;
-        for k in moves {
-            all = game.play(*k).is_ok() && all;
-        }
-        all
+        moves.iter().all(|k| game.play(*k).is_ok())
     }
 
     // What is told of the present line: its length, the moves, and the points where it is over, else 9.
     fn told<G: Game>(game: &G) -> (u32, u32, u8) {
-        let points = match game.score() {
-            Some(s) => s.points(),
-            None => 9,
-        };
+        let points = game.score().map_or(9, |s| s.points());
         (game.played(), game.moves(), points)
     }
 
     // The number of the refusal of a play, or 0.
     fn refusal<G: Game>(game: &mut G, k: u32) -> u8 {
-        match game.play(k) {
-            Ok(()) => 0,
-            Err(e) => e.number(),
-        }
+        game.play(k).err().map_or(0, |e| e.number())
     }
 
     #[test]
@@ -174,17 +164,16 @@ mod tests {
 
     // The number and the place of the refusal of these nodes, or zeros.
     fn refused(nodes: &[Node]) -> (u8, usize) {
-        match Graph::new(nodes) {
-            Ok(_) => (0, 0),
-            Err(e) => (e.number(), e.place()),
-        }
+        Graph::new(nodes)
+            .err()
+            .map_or((0, 0), |e| (e.number(), e.place()))
     }
 
     // The same of 64 nodes of which one, at this place, is another.
     fn refused_with(place: usize, node: Node) -> (u8, usize) {
         let mut nodes = [going(1, 1, 63, 200); 64];
-        if place < 64 {
-            nodes[place] = node;
+        if let Some(at) = nodes.get_mut(place) {
+            *at = node;
         }
         refused(&nodes)
     }
@@ -217,8 +206,10 @@ mod tests {
 
     #[test]
     fn an_end_has_no_targets(rt: HostRuntime) {
-        let mut node = going(0, 1, 0, 0);
-        node.score = 2;
+        let node = Node {
+            score: 2,
+            ..going(0, 1, 0, 0)
+        };
         assert_eq!(rt; refused_with(0, node), (15, 0));
         assert_eq!(rt; refused_with(63, node), (15, 63));
         assert_eq!(rt; refused_with(63, end(2)), (0, 0));
