@@ -1,26 +1,23 @@
--- Parts of the search, one after another, and the plays and moves between them.
-use Rattle.std.proofs.Common.{◌≡◌, ℕ, zero, suc, ◌-◌, ◌<◌, cond, eqb, is_some, Some, None, Option, refl, ap, arith}
-use Rattle.std.proofs.lemmas.Bool.Decides.{nat_tests}
+-- Parts of the search, one after another, and the plays between them.
+use Rattle.std.proofs.Common.{◌≡◌, ℕ, suc, ◌+◌, ◌-◌, ◌<◌, ◌≤◌, ◌∷◌, is_some, Some, None, Option, sym, refl, ap, ◌∙◌, subst, add-one, arith}
+use mathlib.Core.Path.{subst₃}
 use Rattle.game.specs.Meaning.{Line, Meaning}
 use Rattle.game.specs.Laws.{Bounded, Room}
+use Rattle.game.specs.Kept.{Kept}
 use Rattle.game.proofs.Bounds.{room_under}
+use Rattle.game.proofs.Kept.{kept_same, kept_then, visited}
 use Rattle.store.specs.Interface.{StoreMeaning}
-use Rattle.search_method.specs.Search.{exhausted, got, Part, next, ◌>>=◌, played, height_of, moves_left}
+use Rattle.search_method.specs.Tree.{Tree, Runs}
+use Rattle.search_method.specs.Search.{Out, exhausted, got, Part, give, next, ◌>>=◌, played, height_of, moves_left}
 use Rattle.search_method.proofs.Runs.{runs_bind}
-use Rattle.search.specs.Does.{came, Does}
+use Rattle.search.specs.declared.searcher.Searcher.{Searcher}
+use Rattle.search.specs.Moves.{Holds, Played, Plays, TakesBack, Leaves}
+use Rattle.search.specs.Does.{came, At, Does}
+use Rattle.search.specs.Parts.{after}
 
 -- with a play left, what follows it is done with one less
-pub play_more : {A : Type 0} (x : Part A) (left : ℕ) → 0 < left → played x left ≡ x (left - 1)
-play_more x zero h = absurd (omega arith)
-play_more x (suc n) h = ap x (omega arith)
-
--- a play was counted, so one was left
-pub could_play : (left : ℕ) → Some (tt {0}) ≡ cond (eqb left 0) None (Some (tt {0})) → 0 < left
-could_play left h = grind (arith, nat_tests)
-
--- none was counted, so none was left
-pub could_not : (left : ℕ) → None ≡ cond (eqb left 0) None (Some (tt {0})) → left ≡ 0
-could_not left h = grind (arith, nat_tests)
+play_one : {A : Type 0} (x : Part A) (n : ℕ) → played x (n + 1) ≡ x n
+play_one x n = rw add-one refl
 
 -- where a line of a bounded game goes on, moves are left
 pub moves_left_lem : (m : Meaning) (l : Line) → Bounded m → Room m l → (m.view l).score ≡ None → 0 < moves_left m l
@@ -29,18 +26,65 @@ moves_left_lem m l bounded room going =
     let e : height_of m.height ≡ bounded.0 = ap height_of bounded.1.height in
     omega (arith, below, e)
 
-module _ {S : Type 0} (𝓢 : StoreMeaning S) where
-  -- one part after another
-  pub does_then : {A B : Type 0} (x : Part A) (g : A → Part B) (s t u : S) (before between after : ℕ) (a : A) (r : Option B)
-      → Does 𝓢 x s t before (Some a) between → Does 𝓢 (g a) t u between r after → Does 𝓢 (x >>= g) s u before r after
-  does_then x g s t u before between after a r h k =
-      runs_bind 𝓢 (x before) (next g) s t u (got a between) (came r after) h k
+-- one move on there is one move less to go
+pub less_left : (m : Meaning) (l : Line) (k : ℕ) → moves_left m l - 1 ≡ moves_left m (k ∷ l)
+less_left m l k = omega arith
 
-  -- where the first needs a play and none is left, so it is with the whole
-  pub does_exhausted : {A B : Type 0} (x : Part A) (g : A → Part B) (s t : S) (before after after' : ℕ)
-      → Does 𝓢 x s t before None after → Does 𝓢 (x >>= g) s t before None after'
-  does_exhausted x g s t before after after' h = runs_bind 𝓢 (x before) (next g) s t t exhausted exhausted h (refl, refl)
+pub holds_then : {G S : Type 0} {a b c : Searcher G S} → Holds a b → Holds b c → Holds a c
+holds_then p q = record { floor = q.floor ∙ p.floor; game = q.game ∙ p.game; store = q.store ∙ p.store }
 
-  -- a play of which there is none
-  pub does_none : {A : Type 0} (x : Part A) (s : S) (before after : ℕ) → before ≡ 0 → Does 𝓢 (played x) s s before None after
-  does_none x s before after e = rw e (refl, refl)
+module _ {G S : Type 0} {means : G → Meaning} {line : G → Line} where
+  pub stays : (a : Searcher G S) → Leaves means line a a
+  stays a = record { holds = record { floor = refl; game = refl; store = refl }; kept = kept_same means line a.game.now; less = omega arith }
+
+  pub leaves_then : {a b c : Searcher G S} → Leaves means line a b → Leaves means line b c → Leaves means line a c
+  leaves_then p q = record { holds = holds_then p.holds q.holds; kept = kept_then p.kept q.kept; less = omega (arith, p.less, q.less) }
+
+  module _ {𝓢 : StoreMeaning S} where
+    -- what is answered at once
+    pub does_give : {A : Type 0} (x : A) (a : Searcher G S) → Does means line 𝓢 (λ m floor l. give x) a (Some x) a
+    does_give x a = record { leaves = stays a; runs = (refl, refl) }
+
+    -- a part that is the same as another where the searcher stands
+    pub does_as : {A : Type 0} (x y : At A) {a b : Searcher G S} {r : Option A}
+        → x (means a.game.now) a.floor (line a.game.now) a.left ≡ y (means a.game.now) a.floor (line a.game.now) a.left
+        → Does means line 𝓢 y a r b → Does means line 𝓢 x a r b
+    does_as {A} x y {a} {b} {r} e h =
+        record { leaves = h.leaves; runs = subst (λ (t : Tree (Out A)). Runs 𝓢 t a.store.now b.store.now (came r b.left)) (sym e) h.runs }
+
+    -- one part after another
+    pub does_then : {A B : Type 0} (x : At A) (y : A → At B) {a b c : Searcher G S} {v : A} {r : Option B}
+        → Does means line 𝓢 x a (Some v) b → Does means line 𝓢 (y v) b r c → Does means line 𝓢 (λ m floor l. x m floor l >>= (λ v. y v m floor l)) a r c
+    does_then {A} {B} x y {a} {b} {c} {v} {r} p q =
+        record {
+          leaves = leaves_then p.leaves q.leaves;
+          runs = runs_bind 𝓢 (x (means a.game.now) a.floor (line a.game.now) a.left) (next (λ v. y v (means a.game.now) a.floor (line a.game.now))) a.store.now b.store.now c.store.now (got v b.left) (came r c.left) p.runs
+              (subst₃ (λ (m : Meaning) (floor : ℕ) (l : Line). Runs 𝓢 (y v m floor l b.left) b.store.now c.store.now (came r c.left)) p.leaves.kept.same p.leaves.holds.floor p.leaves.kept.back q.runs);
+        }
+
+    -- where the first needs a play and none is left, so it is with the whole
+    pub does_exhausted : {A B : Type 0} (x : At A) (y : A → At B) {a b : Searcher G S}
+        → Does means line 𝓢 x a None b → Does means line 𝓢 (λ m floor l. x m floor l >>= (λ v. y v m floor l)) a None b
+    does_exhausted {A} {B} x y {a} {b} p =
+        record {
+          leaves = p.leaves;
+          runs = runs_bind 𝓢 (x (means a.game.now) a.floor (line a.game.now) a.left) (next (λ v. y v (means a.game.now) a.floor (line a.game.now))) a.store.now b.store.now b.store.now exhausted exhausted p.runs (refl, refl);
+        }
+
+    -- a play of which there is none
+    pub unplayed : {A : Type 0} (x : At A) {k : ℕ} {a b : Searcher G S} → Plays means line k a None b → Does means line 𝓢 (after k x) a None b
+    unplayed {A} x {k} {a} {b} p =
+        subst (λ (b : Searcher G S). Does means line 𝓢 (after k x) a None b) (sym p.1) (record { leaves = stays a; runs = rw p.0 (refl, refl) })
+
+    -- a move is played, a part is done there, and the move is taken back
+    pub visits : {A : Type 0} (x : At A) {k : ℕ} {a b c d : Searcher G S} {r : Option A}
+        → Played means line k a b → Does means line 𝓢 x b r c → TakesBack means line c d → Does means line 𝓢 (after k x) a r d
+    visits {A} x {k} {a} {b} {c} {d} {r} p h t =
+        record {
+          leaves = record {
+            holds = holds_then p.holds (holds_then h.leaves.holds t.holds);
+            kept = visited p.same p.goes h.leaves.kept t.same t.goes;
+            less = omega (arith, p.counted, h.leaves.less, t.left);
+          };
+          runs = rw (p.counted, play_one, ← p.same, ← p.goes, ← p.holds.floor, ← p.reads, t.left, t.reads) h.runs;
+        }

@@ -4,6 +4,7 @@ use mathlib.Core.Path.{subst₃}
 use Rattle.game.specs.declared.kinds.Score.{Score}
 use Rattle.game.specs.Meaning.{Line, Meaning}
 use Rattle.game.specs.Value.{black_moves}
+use Rattle.game.proofs.Kept.{kept_same}
 use Rattle.store.specs.Interface.{StoreMeaning}
 use Rattle.store.specs.declared.entry.Entry.{Entry}
 use Rattle.store.specs.declared.entry.Finding.{Finding}
@@ -13,14 +14,16 @@ use Rattle.search_method.specs.declared.kinds.Worked.{Worked}
 use Rattle.search_method.specs.declared.kinds.Answer.{Answer}
 use Rattle.search_method.specs.Tree.{Tree, done, bind, Runs}
 use Rattle.search_method.specs.Pairs.{pns, dns, first, best_move, pair_of, choice_of, limits_of, reached}
-use Rattle.search_method.specs.Search.{Out, exhausted, got, Part, ◌>>=◌, either, played, entry, line_pair, outcome, evaluate, leave, resume, turns, expand, answer, no_limits, moves_left, solve_by, solve}
+use Rattle.search_method.specs.Search.{Out, exhausted, got, Part, ◌>>=◌, either, played, each, judge, entry, line_pair, outcome, evaluate, leave, resume, turns, expand, answer, no_limits, moves_left, solve_by, solve}
 use Rattle.search_method.proofs.Runs.{runs_bind}
 use Rattle.search.specs.declared.memory.LineRecord.{LineRecord}
-use Rattle.game.specs.Kept.{Kept}
-use Rattle.search.specs.Does.{came, Does}
-use Rattle.search.specs.Numbers.{mine, finding_of, Costs}
+use Rattle.search.specs.declared.searcher.Searcher.{Searcher}
+use Rattle.search.specs.Moves.{Played, TakesBack, Notes, Leaves}
+use Rattle.search.specs.Does.{came, At, Does}
+use Rattle.search.specs.Parts.{after, evaluating, expanding, turning}
+use Rattle.search.specs.Numbers.{mine, finding_of, AllSmall, Costs}
 use Rattle.search.specs.Lines.{record_of}
-use Rattle.search.proofs.Doing.{does_then, does_exhausted, play_more, could_play}
+use Rattle.search.proofs.Doing.{less_left, stays, leaves_then, does_as, does_then, does_exhausted}
 
 -- what is recorded of a line is its outcome
 mine_black : (ps : List Pair) → mine true ps ≡ pns ps
@@ -75,159 +78,165 @@ unfolding expand
 expand_end m floor zero l lim n e = refl
 expand_end m floor (suc h) l lim n e = absurd (omega arith)
 
-module _ {S : Type 0} (𝓢 : StoreMeaning S) where
-  -- what `expand`, `expand_move` and `take_turns` ensure
-  abbrev pub Expands : S → S → Meaning → ℕ → Line → Pair → ℕ → Option Worked → ℕ → Type 0
-  Expands s t m floor l limit before r after = Does 𝓢 (expand m floor (moves_left m l) l limit) s t before r after
+-- where an entry is recorded, the searcher stays as it was
+noted : {G S : Type 0} {means : G → Meaning} {line : G → Line} {𝓢 : StoreMeaning S} {e : Entry} {a b : Searcher G S} → Notes 𝓢 e a b → Leaves means line a b
+noted {means = means} {line = line} h =
+    record { holds = h.holds; kept = record { same = ap means h.game; back = ap line h.game }; less = omega (arith, h.left) }
 
-  abbrev pub Moved : S → S → Meaning → ℕ → Line → ℕ → Pair → ℕ → Option Worked → ℕ → Type 0
-  Moved s t m floor l k limit before r after = Does 𝓢 (played (expand m floor (moves_left m l - 1) (k ∷ l) limit)) s t before r after
+module _ {G S : Type 0} (means : G → Meaning) (line : G → Line) (𝓢 : StoreMeaning S) where
+  -- what `expand`, `expand_move` and `take_turns` do
+  abbrev pub Expands : Pair → Searcher G S → Option Worked → Searcher G S → Type 0
+  Expands limit a r b = Does means line 𝓢 (expanding limit) a r b
 
-  abbrev pub Settles : S → S → Meaning → ℕ → Line → Pair → List Pair → ℕ → Option Worked → ℕ → Type 0
-  Settles s t m floor l limit ps before r after =
-      (f : ℕ) → before < f → Does 𝓢 (turns m floor (expand m floor (moves_left m l - 1)) f l limit ps) s t before r after
+  abbrev pub Moved : ℕ → Pair → Searcher G S → Option Worked → Searcher G S → Type 0
+  Moved k limit a r b = Does means line 𝓢 (after k (expanding limit)) a r b
 
-  pub moved : (s t : S) (m n : Meaning) (floor : ℕ) (l l' : Line) (k : ℕ) (limit : Pair) (before one_less : ℕ) (r : Option Worked) (after : ℕ)
-      → Some (tt {0}) ≡ cond (eqb before 0) None (Some (tt {0})) → one_less ≡ before - 1 → n ≡ m → l' ≡ k ∷ l
-      → Expands s t n floor l' limit one_less r after → Moved s t m floor l k limit before r after
-  moved s t m n floor l l' k limit before one_less r after some_left e same goes there =
-      let pos : 0 < before = could_play before some_left in
-      let less_deep : moves_left m (k ∷ l) ≡ moves_left m l - 1 = omega arith in
-      rw (play_more (expand m floor (moves_left m l - 1) (k ∷ l) limit) before pos)
-      (subst (λ d. Does 𝓢 (expand m floor d (k ∷ l) limit) s t (before - 1) r after) less_deep
-      (subst₃ (λ (m : Meaning) (l : Line) (n : ℕ). Expands s t m floor l limit n r after) same goes e there))
+  abbrev pub Settles : Pair → List Pair → Searcher G S → Option Worked → Searcher G S → Type 0
+  Settles limit ps a r b = (f : ℕ) → a.left < f → Does means line 𝓢 (turning f limit ps) a r b
 
-  pub moved_kept : {G : Type 0} (means : G → Meaning) (line : G → Line) (g h : G) → Kept means line g h
-      → (s t : S) (floor k : ℕ) (limit : Pair) (before : ℕ) (r : Option Worked) (after : ℕ)
-      → Moved s t (means h) floor (line h) k limit before r after → Moved s t (means g) floor (line g) k limit before r after
-  moved_kept means line g h kept s t floor k limit before r after one =
-      subst₂ (λ (m : Meaning) (l : Line). Moved s t m floor l k limit before r after) kept.same kept.back one
+  -- the record is that of the line at which a searcher stands, wherever it has been meanwhile
+  abbrev pub Told : LineRecord → Searcher G S → Type 0
+  Told x a = x ≡ record_of (means a.game.now) a.floor (line a.game.now) x.limit
 
-  -- the turns so far, from s, ps and before to s', ps' and left: however the rest ends, so does the whole
-  pub record Turning (m : Meaning) (floor : ℕ) (l : Line) (limit : Pair) (s : S) (ps : List Pair) (before : ℕ) (s' : S) (ps' : List Pair) (left : ℕ) : Type 0 where
-    pub less : left ≤ before
-    pub rest : (u : S) (r : Option Worked) (after : ℕ)
-        → Settles s' u m floor l limit ps' left r after → Settles s u m floor l limit ps before r after
+  pub told_kept : (x : LineRecord) (a b : Searcher G S) → Leaves means line a b → Told x a → Told x b
+  told_kept x a b p told = told ∙ sym (λ i. record_of (p.kept.same i) (p.holds.floor i) (p.kept.back i) x.limit)
 
-  pub turning_none : (m : Meaning) (floor : ℕ) (l : Line) (limit : Pair) (s : S) (ps : List Pair) (before : ℕ) → Turning m floor l limit s ps before s ps before
-  turning_none m floor l limit s ps before = record { less = omega arith; rest = λ u r after h. h }
+  -- one turn
+  module _ (x : LineRecord) (ps : List Pair) (a : Searcher G S) (told : Told x a) (pair : Pair) (is_pair : pair ≡ pair_of x.black ps) where
+    abbrev m : Meaning
+    m = means a.game.now
 
-  -- a turn, by what the chosen move comes to
-  turn_deepens : (m : Meaning) (floor : ℕ) (l : Line) (limit : Pair) (ps : List Pair) (s t u : S) (left between : ℕ) (q r : Option Worked) (after f : ℕ)
-      → 0 < f → reached limit (line_pair m l ps) ≡ false
-      → Moved s t m floor l (choice_of (black_moves (m.view l)) ps) (limits_of (black_moves (m.view l)) limit ps) left q between
-      → Runs 𝓢 (resume m floor (turns m floor (expand m floor (moves_left m l - 1)) (f - 1) l limit) l ps (came q between)) t u (came r after)
-      → Does 𝓢 (turns m floor (expand m floor (moves_left m l - 1)) f l limit ps) s u left r after
-  turn_deepens m floor l limit ps s t u left between q r after f pos open_yet move go_on =
-      subst (λ (x : Tree (Out Worked)). Runs 𝓢 x s u (came r after)) (sym (turns_more m floor (expand m floor (moves_left m l - 1)) f l limit ps left pos))
-      (subst (λ b. Runs 𝓢 (either b (leave m floor l ps)
-      (λ n'. bind (played (expand m floor (moves_left m l - 1) (choice_of (black_moves (m.view l)) ps ∷ l) (limits_of (black_moves (m.view l)) limit ps)) n') (resume m floor (turns m floor (expand m floor (moves_left m l - 1)) (f - 1) l limit) l ps)) left) s u (came r after)) (sym open_yet)
-      (runs_bind 𝓢 (played (expand m floor (moves_left m l - 1) (choice_of (black_moves (m.view l)) ps ∷ l) (limits_of (black_moves (m.view l)) limit ps)) left)
-      (resume m floor (turns m floor (expand m floor (moves_left m l - 1)) (f - 1) l limit) l ps) s t u (came q between) (came r after) move go_on))
+    abbrev l : Line
+    l = line a.game.now
 
-  -- the chosen move as the code has it
-  chosen : (m : Meaning) (floor : ℕ) (l : Line) (limit : Pair) (ps : List Pair) (s t : S) (black : Bool) (k : ℕ) (next : Pair) (left : ℕ) (q : Option Worked) (after : ℕ)
-      → black ≡ black_moves (m.view l) → k ≡ choice_of black ps → next ≡ limits_of black limit ps → Moved s t m floor l k next left q after
-      → Moved s t m floor l (choice_of (black_moves (m.view l)) ps) (limits_of (black_moves (m.view l)) limit ps) left q after
-  chosen m floor l limit ps s t black k next left q after side is_k is_next move =
-      subst₂ (λ (k : ℕ) (n : Pair). Moved s t m floor l k n left q after)
-      (is_k ∙ ap (λ b. choice_of b ps) side) (is_next ∙ ap (λ b. limits_of b limit ps) side) move
+    abbrev go : Line → Pair → Part Worked
+    go = expand m a.floor (moves_left m l - 1)
 
-  pub turning_more : (m : Meaning) (floor : ℕ) (l : Line) (limit : Pair) (s : S) (ps : List Pair) (before : ℕ) (s' : S) (ps' : List Pair) (left : ℕ)
-      (t : S) (black : Bool) (k : ℕ) (next : Pair) (q : Worked) (after : ℕ)
-      → black ≡ black_moves (m.view l) → reached limit (pair_of black ps') ≡ false → k ≡ choice_of black ps' → next ≡ limits_of black limit ps' → after < left
-      → Turning m floor l limit s ps before s' ps' left → Moved s' t m floor l k next left (Some q) after
-      → Turning m floor l limit s ps before t (set ps' k q.pair) after
-  turning_more m floor l limit s ps before s' ps' left t black k next q after side open_yet is_k is_next falls so_far move =
-      let same_k : k ≡ choice_of (black_moves (m.view l)) ps' = is_k ∙ ap (λ b. choice_of b ps') side in
-      let not_yet : reached limit (line_pair m l ps') ≡ false = subst (λ b. reached limit (pair_of b ps') ≡ false) side open_yet in
-      record {
-        less = omega (arith, so_far.less);
-        rest = λ u r end h.
-            so_far.rest u r end
-            (λ f lt.
-            turn_deepens m floor l limit ps' s' t u left after (Some q) r end f (omega arith) not_yet
-            (chosen m floor l limit ps' s' t black k next left (Some q) after side is_k is_next move)
-            (subst (λ n. Does 𝓢 (turns m floor (expand m floor (moves_left m l - 1)) (f - 1) l limit (set ps' n q.pair)) t u after r end) same_k (h (f - 1) (omega arith))));
-      }
+    abbrev chosen : Pair → Part Worked
+    chosen limit = played (go (choice_of (black_moves (m.view l)) ps ∷ l) (limits_of (black_moves (m.view l)) limit ps))
 
-  -- no play is left for what is below
-  pub turning_exhausted : (m : Meaning) (floor : ℕ) (l : Line) (limit : Pair) (s : S) (ps : List Pair) (before : ℕ) (s' : S) (ps' : List Pair) (left : ℕ)
-      (t u : S) (black : Bool) (k : ℕ) (next : Pair) (after : ℕ) (e : Entry)
-      → black ≡ black_moves (m.view l) → reached limit (pair_of black ps') ≡ false → k ≡ choice_of black ps' → next ≡ limits_of black limit ps'
-      → Turning m floor l limit s ps before s' ps' left → Moved s' t m floor l k next left None after
-      → 𝓢.records t e u → e ≡ entry m floor l (Open (pair_of black ps').pn (pair_of black ps').dn)
-      → Settles s u m floor l limit ps before None after
-  turning_exhausted m floor l limit s ps before s' ps' left t u black k next after e side open_yet is_k is_next so_far move noted is_e =
-      let not_yet : reached limit (line_pair m l ps') ≡ false = subst (λ b. reached limit (pair_of b ps') ≡ false) side open_yet in
-      let same_e : e ≡ entry m floor l (Open (line_pair m l ps').pn (line_pair m l ps').dn) =
-      is_e ∙ ap (λ b. entry m floor l (Open (pair_of b ps').pn (pair_of b ps').dn)) side in
-      so_far.rest u None after
-      (λ f lt.
-      turn_deepens m floor l limit ps' s' t u left after None None after f (omega arith) not_yet
-      (chosen m floor l limit ps' s' t black k next left None after side is_k is_next move)
-      (u, subst (λ (x : Entry). 𝓢.records t x u) same_e noted, (refl, refl)))
+    abbrev again : ℕ → Out Worked → Tree (Out Worked)
+    again f = resume m a.floor (turns m a.floor go (f - 1) l x.limit) l ps
 
-  -- a limit is reached and the line is left
-  pub turning_left : (m : Meaning) (floor : ℕ) (l : Line) (limit : Pair) (s : S) (ps : List Pair) (before : ℕ) (s' : S) (ps' : List Pair) (left : ℕ)
-      (u : S) (black independent : Bool) (pair : Pair) (x : Finding) (e : Entry)
-      → black ≡ black_moves (m.view l) → independent ≡ (m.view l).independent → reached limit (pair_of black ps') ≡ true
-      → pair ≡ pair_of black ps' → x ≡ finding_of black independent ps'
-      → Turning m floor l limit s ps before s' ps' left → 𝓢.records s' e u → e ≡ entry m floor l x
-      → Settles s u m floor l limit ps before (Some (record { pair = pair; finding = x })) left
-  turning_left m floor l limit s ps before s' ps' left u black independent pair x e side free at_limit is_pair is_x so_far noted is_e =
-      let there : reached limit (line_pair m l ps') ≡ true = subst (λ b. reached limit (pair_of b ps') ≡ true) side at_limit in
-      let same_pair : pair ≡ line_pair m l ps' = is_pair ∙ ap (λ b. pair_of b ps') side in
-      let same_x : x ≡ outcome m l ps' = is_x ∙ ((λ i. finding_of (side i) (free i) ps') ∙ finding_is m l ps') in
-      let same_e : e ≡ entry m floor l (outcome m l ps') = is_e ∙ ap (entry m floor l) same_x in
-      so_far.rest u (Some (record { pair = pair; finding = x })) left
-      (λ f lt.
-      subst (λ (y : Tree (Out Worked)). Runs 𝓢 y s' u (got (record { pair = pair; finding = x }) left))
-      (sym (turns_more m floor (expand m floor (moves_left m l - 1)) f l limit ps' left (omega arith)))
-      (subst (λ b. Runs 𝓢 (either b (leave m floor l ps')
-      (λ n'. bind (played (expand m floor (moves_left m l - 1) (choice_of (black_moves (m.view l)) ps' ∷ l) (limits_of (black_moves (m.view l)) limit ps')) n') (resume m floor (turns m floor (expand m floor (moves_left m l - 1)) (f - 1) l limit) l ps')) left) s' u (got (record { pair = pair; finding = x }) left)) (sym there) (
-        u,
-        subst (λ (y : Entry). 𝓢.records s' y u) same_e noted,
-        (refl, (λ i. got (record { pair = sym same_pair i; finding = sym same_x i }) left)),
-      )))
+    side : x.black ≡ black_moves (m.view l)
+    side = λ i. (told i).black
+
+    same_pair : pair ≡ line_pair m l ps
+    same_pair = is_pair ∙ ap (λ b. pair_of b ps) side
+
+    opened : (t : Bool) (f : ℕ) → t ≡ reached x.limit pair → 0 < f →
+        turns m a.floor go f l x.limit ps a.left ≡ either t (leave m a.floor l ps) (λ n. bind (chosen x.limit n) (again f)) a.left
+    opened t f e pos =
+        turns_more m a.floor go f l x.limit ps a.left pos
+        ∙ ap (λ t. either t (leave m a.floor l ps) (λ n. bind (chosen x.limit n) (again f)) a.left) (ap (reached x.limit) (sym same_pair) ∙ sym e)
+
+    -- a limit is reached and the line is left
+    pub turn_leaves : (found : Finding) (b : Searcher G S) → true ≡ reached x.limit pair → found ≡ finding_of x.black x.independent ps → Notes 𝓢 (record { key = x.key; finding = found }) a b
+        → Settles x.limit ps a (Some (record { pair = pair; finding = found })) b
+    turn_leaves found b at_limit is_found h f lt =
+        let same_found : found ≡ outcome m l ps = is_found ∙ ((λ i. finding_of (side i) (told i).independent ps) ∙ finding_is m l ps) in
+        let same_entry : ◌≡◌ {A = Entry} (record { key = x.key; finding = found }) (entry m a.floor l (outcome m l ps)) = λ i. record { key = (told i).key; finding = same_found i } in
+        record {
+          leaves = noted h;
+          runs = subst (λ (y : Tree (Out Worked)). Runs 𝓢 y a.store.now b.store.now (got (record { pair = pair; finding = found }) b.left)) (sym (opened true f at_limit (omega arith))) (
+            b.store.now,
+            subst (λ (y : Entry). 𝓢.records a.store.now y b.store.now) same_entry h.records,
+            (refl, (λ i. got (record { pair = sym same_pair i; finding = sym same_found i }) (sym h.left i))),
+          );
+        }
+
+    -- the chosen move is expanded
+    module _ (k : ℕ) (next : Pair) (open_yet : false ≡ reached x.limit pair) (is_k : k ≡ choice_of x.black ps) (is_next : next ≡ limits_of x.black x.limit ps) where
+      same_k : k ≡ choice_of (black_moves (m.view l)) ps
+      same_k = is_k ∙ ap (λ b. choice_of b ps) side
+
+      chosen_runs : (q : Option Worked) (b : Searcher G S) → Moved k next a q b → Runs 𝓢 (chosen x.limit a.left) a.store.now b.store.now (came q b.left)
+      chosen_runs q b move =
+          subst₂ (λ (k : ℕ) (n : Pair). Runs 𝓢 (played (go (k ∷ l) n) a.left) a.store.now b.store.now (came q b.left)) same_k (is_next ∙ ap (λ b. limits_of b x.limit ps) side)
+          (subst (λ h. Runs 𝓢 (played (expand m a.floor h (k ∷ l) next) a.left) a.store.now b.store.now (came q b.left)) (sym (less_left m l k)) move.runs)
+
+      goes_on : (q : Option Worked) (b c : Searcher G S) (r : Option Worked) (f : ℕ) → 0 < f → Moved k next a q b
+          → Runs 𝓢 (again f (came q b.left)) b.store.now c.store.now (came r c.left)
+          → Runs 𝓢 (turns m a.floor go f l x.limit ps a.left) a.store.now c.store.now (came r c.left)
+      goes_on q b c r f pos move rest =
+          subst (λ (y : Tree (Out Worked)). Runs 𝓢 y a.store.now c.store.now (came r c.left)) (sym (opened false f open_yet pos))
+          (runs_bind 𝓢 (chosen x.limit a.left) (again f) a.store.now b.store.now c.store.now (came q b.left) (came r c.left) (chosen_runs q b move) rest)
+
+      pub turn_goes : (w : Worked) (b c : Searcher G S) (r : Option Worked) → b.left < a.left → Moved k next a (Some w) b
+          → Settles x.limit (set ps k w.pair) b r c → Settles x.limit ps a r c
+      turn_goes w b c r falls move settled f lt =
+          let rest = settled (f - 1) (omega arith) in
+          record {
+            leaves = leaves_then move.leaves rest.leaves;
+            runs = goes_on (Some w) b c r f (omega arith) move
+                (subst (λ n. Runs 𝓢 (turns m a.floor go (f - 1) l x.limit (set ps n w.pair) b.left) b.store.now c.store.now (came r c.left)) same_k
+                (subst₃ (λ (m : Meaning) (floor : ℕ) (l : Line). Runs 𝓢 (turning (f - 1) x.limit (set ps k w.pair) m floor l b.left) b.store.now c.store.now (came r c.left))
+                move.leaves.kept.same move.leaves.holds.floor move.leaves.kept.back rest.runs));
+          }
+
+      -- no play is left for what is below
+      pub turn_stops : (b c : Searcher G S) → Moved k next a None b
+          → Notes 𝓢 (record { key = x.key; finding = Open pair.pn pair.dn }) b c → Settles x.limit ps a None c
+      turn_stops b c move h f lt =
+          let same_entry : ◌≡◌ {A = Entry} (record { key = x.key; finding = Open pair.pn pair.dn }) (entry m a.floor l (Open (line_pair m l ps).pn (line_pair m l ps).dn)) =
+          λ i. record { key = (told i).key; finding = Open (same_pair i).pn (same_pair i).dn } in
+          record {
+            leaves = leaves_then move.leaves (noted h);
+            runs = goes_on None b c None f (omega arith) move (c.store.now, subst (λ (y : Entry). 𝓢.records b.store.now y c.store.now) same_entry h.records, (refl, refl));
+          }
+
+  -- the turns so far, from ps at a to qs at b: however the rest ends, so does the whole
+  pub record Turning (x : LineRecord) (ps : List Pair) (a : Searcher G S) (qs : List Pair) (b : Searcher G S) : Type 0 where
+    pub leaves : Leaves means line a b
+    pub told : Told x b
+    pub small : AllSmall qs
+    pub rest : (r : Option Worked) (c : Searcher G S) → Settles x.limit qs b r c → Settles x.limit ps a r c
+
+  pub turning_none : (x : LineRecord) (ps : List Pair) (a : Searcher G S) → Told x a → AllSmall ps → Turning x ps a ps a
+  turning_none x ps a told small = record { leaves = stays a; told = told; small = small; rest = λ r c h. h }
 
   -- no move may be left
-  pub expand_ends : (s : S) (m : Meaning) (floor : ℕ) (l : Line) (limit : Pair) (before after : ℕ) → moves_left m l ≡ 0 → Expands s s m floor l limit before None after
-  expand_ends s m floor l limit before after e =
-      subst (λ (x : Tree (Out Worked)). Runs 𝓢 x s s exhausted) (sym (expand_end m floor (moves_left m l) l limit before e)) (refl, refl)
+  pub expand_ends : (limit : Pair) (a : Searcher G S) → moves_left (means a.game.now) (line a.game.now) ≡ 0 → Expands limit a None a
+  expand_ends limit a e =
+      record {
+        leaves = stays a;
+        runs = subst (λ (x : Tree (Out Worked)). Runs 𝓢 x a.store.now a.store.now exhausted) (sym (expand_end (means a.game.now) a.floor (moves_left (means a.game.now) (line a.game.now)) (line a.game.now) limit a.left e)) (refl, refl);
+      }
 
   -- an initial evaluation, and then the turns
-  pub expand_exhausted : (s : S) (m : Meaning) (floor : ℕ) (l : Line) (limit : Pair) (before after : ℕ) → 0 < moves_left m l
-      → Does 𝓢 (evaluate m floor (moves_left m l - 1) l) s s before None after → Expands s s m floor l limit before None after
-  expand_exhausted s m floor l limit before after pos evaluated =
-      subst (λ (x : Tree (Out Worked)). Runs 𝓢 x s s exhausted) (sym (expand_more m floor (moves_left m l) l limit before pos))
-      (does_exhausted 𝓢 (evaluate m floor (moves_left m l - 1) l) (λ ps n'. turns m floor (expand m floor (moves_left m l - 1)) (suc n') l limit ps n') s s before after after evaluated)
+  abbrev turns_of : Pair → List Pair → At Worked
+  turns_of limit ps m floor l n = turning (suc n) limit ps m floor l n
 
-  pub expand_settled : (s t : S) (m n : Meaning) (floor : ℕ) (l l' : Line) (limit : Pair) (ps : List Pair) (before between after : ℕ) (r : Option Worked)
-      → 0 < moves_left m l → n ≡ m → l' ≡ l
-      → Does 𝓢 (evaluate m floor (moves_left m l - 1) l) s s before (Some ps) between → Settles s t n floor l' limit ps between r after
-      → Expands s t m floor l limit before r after
-  expand_settled s t m n floor l l' limit ps before between after r pos same back evaluated settled =
-      subst (λ (x : Tree (Out Worked)). Runs 𝓢 x s t (came r after)) (sym (expand_more m floor (moves_left m l) l limit before pos))
-      (does_then 𝓢 (evaluate m floor (moves_left m l - 1) l) (λ ps n'. turns m floor (expand m floor (moves_left m l - 1)) (suc n') l limit ps n') s s t before between after ps r evaluated
-      (subst₂ (λ (m : Meaning) (l : Line). Settles s t m floor l limit ps between r after) same back settled (suc between) (omega arith)))
+  evaluates : (limit : Pair) (m : Meaning) (floor : ℕ) (l : Line) (n : ℕ) → 0 < moves_left m l →
+      expanding limit m floor l n ≡ (evaluating m floor l >>= (λ ps. turns_of limit ps m floor l)) n
+  evaluates limit m floor l n pos =
+      expand_more m floor (moves_left m l) l limit n pos
+      ∙ (λ i. (each (λ k. judge m floor (less_left m l k i) (k ∷ l)) 0 (m.view l).moves >>= (λ ps. turns_of limit ps m floor l)) n)
+
+  pub expand_exhausted : (limit : Pair) (a b : Searcher G S) → 0 < moves_left (means a.game.now) (line a.game.now)
+      → Does means line 𝓢 evaluating a None b → Expands limit a None b
+  expand_exhausted limit a b pos evaluated =
+      does_as (expanding limit) (λ m floor l. evaluating m floor l >>= (λ ps. turns_of limit ps m floor l)) (evaluates limit (means a.game.now) a.floor (line a.game.now) a.left pos)
+      (does_exhausted evaluating (turns_of limit) evaluated)
+
+  pub expand_settled : (limit : Pair) (ps : List Pair) (a b c : Searcher G S) (r : Option Worked) → 0 < moves_left (means a.game.now) (line a.game.now)
+      → Does means line 𝓢 evaluating a (Some ps) b → Settles limit ps b r c → Expands limit a r c
+  expand_settled limit ps a b c r pos evaluated settled =
+      does_as (expanding limit) (λ m floor l. evaluating m floor l >>= (λ ps. turns_of limit ps m floor l)) (evaluates limit (means a.game.now) a.floor (line a.game.now) a.left pos)
+      (does_then evaluating (turns_of limit) evaluated (does_as (turns_of limit ps) (turning (suc b.left) limit ps) refl (settled (suc b.left) (omega arith))))
 
   -- a line that is not over is expanded without limits
-  pub solve_expands : (s t : S) (m : Meaning) (l : Line) (floor budget : ℕ) (found : Option Worked) (after : ℕ) (r : Answer)
-      → (m.view l).score ≡ None → Expands s t m floor l no_limits budget found after → r ≡ answer budget (came found after)
-      → Runs 𝓢 (solve m l floor budget) s t r
-  solve_expands s t m l floor budget found after r going expands is =
-      subst (λ (o : Option Score). Runs 𝓢 (solve_by m l floor budget o) s t r) (sym going)
-      (runs_bind 𝓢 (expand m floor (moves_left m l) l no_limits budget) (λ o. done (answer budget o)) s t t (came found after) r expands (refl, sym is))
+  pub solve_expands : (budget : ℕ) (found : Option Worked) (a b : Searcher G S) (r : Answer) → ((means a.game.now).view (line a.game.now)).score ≡ None → a.left ≡ budget
+      → Expands no_limits a found b → r ≡ answer budget (came found b.left)
+      → (t : S) → t ≡ b.store.now → Runs 𝓢 (solve (means a.game.now) (line a.game.now) a.floor budget) a.store.now t r
+  solve_expands budget found a b r going all expands is t at_end =
+      rw at_end
+      (subst (λ (o : Option Score). Runs 𝓢 (solve_by (means a.game.now) (line a.game.now) a.floor budget o) a.store.now b.store.now r) (sym going)
+      (runs_bind 𝓢 (expanding no_limits (means a.game.now) a.floor (line a.game.now) budget) (λ o. done (answer budget o)) a.store.now b.store.now b.store.now (came found b.left) r
+      (subst (λ n. Runs 𝓢 (expanding no_limits (means a.game.now) a.floor (line a.game.now) n) a.store.now b.store.now (came found b.left)) all expands.runs) (refl, sym is)))
 
 -- a play was counted
-pub costs_play : (r : Option Worked) (before one_less after : ℕ) → Some (tt {0}) ≡ cond (eqb before 0) None (Some (tt {0})) → one_less ≡ before - 1 → after ≤ one_less
-    → Costs r before after
-costs_play None before one_less after some_left e le = tt
-costs_play (Some w) before one_less after some_left e le = let pos : 0 < before = could_play before some_left in omega arith
-
--- the record of a line tells it also where the game has been kept
-pub told_kept : {G : Type 0} (means : G → Meaning) (line : G → Line) (g h : G) → Kept means line g h → (x : LineRecord)
-    → x ≡ record_of (means g) x.key.floor (line g) x.limit → x ≡ record_of (means h) x.key.floor (line h) x.limit
-told_kept means line g h kept x e =
-    e ∙ sym (λ i. record_of (kept.same i) x.key.floor (kept.back i) x.limit)
+pub costs_play : {G S : Type 0} {means : G → Meaning} {line : G → Line} {k : ℕ} {a b c d : Searcher G S} (r : Option Worked)
+    → Played means line k a b → Leaves means line b c → TakesBack means line c d → Costs r a.left d.left
+costs_play None p h t = tt
+costs_play (Some w) p h t = omega (arith, p.counted, h.less, t.left)

@@ -1,41 +1,17 @@
--- The initial evaluation: what an entry is worth, and the moves that have been judged.
-use Rattle.std.proofs.Common.{◌≡◌, ℕ, suc, ◌+◌, ◌-◌, ◌<◌, ◌≤◌, Bool, true, false, cond, ◌&&◌, eqb, List, [], ◌∷◌, ◌++◌, Some, None, Option, sym, refl, ap, ◌∙◌, subst, subst₂, append_assoc, append-nil, arith}
+-- The initial evaluation: a verdict that is confirmed, and the moves that have been judged.
+use Rattle.std.proofs.Common.{◌≡◌, ℕ, suc, ◌+◌, ◌-◌, ◌<◌, ◌≤◌, Bool, cond, List, [], ◌∷◌, ◌++◌, Some, None, Option, sym, refl, ap, ◌∙◌, subst, append_assoc, append-nil, arith}
 use native.Mathlib.Nat.{sub-zero}
-use mathlib.Core.Path.{subst₃}
-use Rattle.game.specs.declared.kinds.Score.{Score}
 use Rattle.game.specs.Meaning.{Line, Meaning}
 use Rattle.store.specs.Interface.{StoreMeaning}
 use Rattle.store.specs.declared.entry.Entry.{Entry}
-use Rattle.store.specs.declared.entry.Finding.{Finding}
-use Rattle.store.specs.declared.entry.Finding.TheVariants.{Verdict, Open}
 use Rattle.search_method.specs.declared.kinds.Pair.{Pair}
-use Rattle.search_method.specs.Tree.{Tree, Runs}
-use Rattle.search_method.specs.Pairs.{settled}
-use Rattle.search_method.specs.Search.{Out, Part, give, ◌>>=◌, either, played, each, key, judged, simulate, confirm, appraise_by, appraise, judge, evaluate, moves_left}
-use Rattle.search.specs.declared.evaluation.Weight.{Weight}
-use Rattle.search.specs.declared.evaluation.Weight.TheVariants.{Given, Check}
-use Rattle.game.specs.Kept.{Kept}
-use Rattle.search.specs.Does.{came, Does}
-use Rattle.search.specs.Steps.{weight_by, weigh, believed, confirmed}
-use Rattle.search.proofs.Doing.{does_then, does_exhausted, play_more, could_play}
-
--- what an entry comes to by its weight
-abbrev pub by_weight : Meaning → ℕ → Line → Option Entry → Weight → Part Pair
-by_weight m floor l o (Given p) = give p
-by_weight m floor l o (Check v) = confirmed m floor v l o
-
-weighs : (m : Meaning) (floor : ℕ) (l : Line) (n : ℕ) (o : Option Entry) →
-    appraise m floor (moves_left m l) l o n ≡ by_weight m floor l o (weigh (m.view l).independent o) n
-weighs m floor l n None = refl
-weighs m floor l n (Some e) = by e.finding
-  where
-    marked : (v b : Bool) → either b (give (settled v)) (confirm m floor (moves_left m l) l e v) n ≡ by_weight m floor l (Some e) (cond b (Given (settled v)) (Check v)) n
-    marked v true = refl
-    marked v false = refl
-
-    by : (f : Finding) → appraise_by m floor (moves_left m l) l e f n ≡ by_weight m floor l (Some e) (weight_by (m.view l).independent f) n
-    by (Open p d) = refl
-    by (Verdict v c k) = marked v (c && (m.view l).independent)
+use Rattle.search_method.specs.Pairs.{settled, unknown}
+use Rattle.search_method.specs.Search.{Part, give, ◌>>=◌}
+use Rattle.search.specs.declared.searcher.Searcher.{Searcher}
+use Rattle.search.specs.Moves.{Leaves}
+use Rattle.search.specs.Does.{At, Does}
+use Rattle.search.specs.Parts.{after, simulation, confirming, judging, all_judging, evaluating}
+use Rattle.search.proofs.Doing.{stays, leaves_then, does_give, does_as, does_then, does_exhausted}
 
 -- pairs before those of a row
 abbrev pub prepend : List Pair → Option (List Pair) → Option (List Pair)
@@ -50,112 +26,80 @@ prepend_more : (ps : List Pair) (p : Pair) (r : Option (List Pair)) → prepend 
 prepend_more ps p None = refl
 prepend_more ps p (Some qs) = ap Some (sym (append_assoc ps (p ∷ []) qs))
 
-module _ {S : Type 0} (𝓢 : StoreMeaning S) where
-  pub confirmed_exhausted : (s : S) (m : Meaning) (floor : ℕ) (v : Bool) (l : Line) (o : Option Entry) (before after : ℕ)
-      → Does 𝓢 (simulate m floor (moves_left m l) l v o) s s before None after → Does 𝓢 (confirmed m floor v l o) s s before None after
-  confirmed_exhausted s m floor v l o before after sim =
-      does_exhausted 𝓢 (simulate m floor (moves_left m l) l v o) (λ held. give (believed v held)) s s before after after sim
+module _ {G S : Type 0} (means : G → Meaning) (line : G → Line) (𝓢 : StoreMeaning S) where
+  -- a verdict that was simulated
+  pub confirmed : (e : Entry) (v held : Bool) (p : Pair) {a b : Searcher G S} → p ≡ cond held (settled v) unknown
+      → Does means line 𝓢 (simulation v (Some e)) a (Some held) b → Does means line 𝓢 (confirming e v) a (Some p) b
+  confirmed e v held p {a} {b} is h =
+      rw is
+      (does_then (simulation v (Some e)) (λ held m floor l. give (cond held (settled v) unknown)) h (does_give (cond held (settled v) unknown) b))
 
-  pub confirmed_so : (s : S) (m : Meaning) (floor : ℕ) (v : Bool) (l : Line) (o : Option Entry) (before after : ℕ) (held : Bool) (p : Pair)
-      → Does 𝓢 (simulate m floor (moves_left m l) l v o) s s before (Some held) after
-      → p ≡ believed v held → Does 𝓢 (confirmed m floor v l o) s s before (Some p) after
-  confirmed_so s m floor v l o before after held p sim e =
-      subst (λ (q : Pair). Does 𝓢 (confirmed m floor v l o) s s before (Some q) after) (sym e)
-      (does_then 𝓢 (simulate m floor (moves_left m l) l v o) (λ held. give (believed v held)) s s s before after after held (Some (believed v held)) sim (refl, refl))
+  pub unconfirmed : (e : Entry) (v : Bool) {a b : Searcher G S} → Does means line 𝓢 (simulation v (Some e)) a None b → Does means line 𝓢 (confirming e v) a None b
+  unconfirmed e v h = does_exhausted (simulation v (Some e)) (λ held m floor l. give (cond held (settled v) unknown)) h
 
-  -- what `judge_now` ensures, and what `judge_move` ensures
-  abbrev pub Judged : S → Meaning → ℕ → Line → ℕ → Option Pair → ℕ → Type 0
-  Judged s m floor l before r after = Does 𝓢 (judge m floor (moves_left m l) l) s s before r after
+  -- what `judge_move` does, and what `evaluate` does of n moves from k on
+  abbrev pub Judged : ℕ → Searcher G S → Option Pair → Searcher G S → Type 0
+  Judged k a r b = Does means line 𝓢 (after k judging) a r b
 
-  abbrev pub JudgedMove : S → Meaning → ℕ → Line → ℕ → ℕ → Option Pair → ℕ → Type 0
-  JudgedMove s m floor l k before r after = Does 𝓢 (played (judge m floor (moves_left m l - 1) (k ∷ l))) s s before r after
+  abbrev pub Judges : ℕ → ℕ → Searcher G S → Option (List Pair) → Searcher G S → Type 0
+  Judges k n a r b = Does means line 𝓢 (all_judging k n) a r b
 
-  -- a line that is not over goes by the weight of what the store shows
-  pub judged_so : (s : S) (m : Meaning) (floor : ℕ) (l : Line) (o : Option Entry) (w : Weight) (before : ℕ) (r : Option Pair) (after : ℕ)
-      → (m.view l).score ≡ None → o ≡ 𝓢.shows s (key m floor l) → w ≡ weigh (m.view l).independent o
-      → Does 𝓢 (by_weight m floor l o w) s s before r after → Judged s m floor l before r after
-  judged_so s m floor l o w before r after going shown is h =
-      subst (λ (x : Option Score). Runs 𝓢 (judged m floor settled (appraise m floor (moves_left m l) l) l x before) s s (came r after)) (sym going)
-      (subst (λ (x : Option Entry). Runs 𝓢 (appraise m floor (moves_left m l) l x before) s s (came r after)) shown
-      (subst (λ (x : Tree (Out Pair)). Runs 𝓢 x s s (came r after)) (sym (weighs m floor l before o))
-      (subst (λ (x : Weight). Does 𝓢 (by_weight m floor l o x) s s before r after) is h)))
+  evaluated : (moves : ℕ) (a b : Searcher G S) (r : Option (List Pair)) → moves ≡ ((means a.game.now).view (line a.game.now)).moves
+      → Judges 0 moves a r b → Does means line 𝓢 evaluating a r b
+  evaluated moves a b r e h =
+      does_as evaluating (all_judging 0 moves) (λ i. all_judging 0 (sym e i) (means a.game.now) a.floor (line a.game.now) a.left) h
 
-  pub judged_move : (s : S) (m n : Meaning) (floor : ℕ) (l l' : Line) (k before one_less : ℕ) (r : Option Pair) (after : ℕ)
-      → Some (tt {0}) ≡ cond (eqb before 0) None (Some (tt {0})) → one_less ≡ before - 1 → n ≡ m → l' ≡ k ∷ l
-      → Judged s n floor l' one_less r after → JudgedMove s m floor l k before r after
-  judged_move s m n floor l l' k before one_less r after some_left e same goes judged_there =
-      let pos : 0 < before = could_play before some_left in
-      let less_deep : moves_left m (k ∷ l) ≡ moves_left m l - 1 = omega arith in
-      rw (play_more (judge m floor (moves_left m l - 1) (k ∷ l)) before pos)
-      (subst (λ d. Does 𝓢 (judge m floor d (k ∷ l)) s s (before - 1) r after) less_deep
-      (subst₃ (λ (m : Meaning) (l : Line) (n : ℕ). Judged s m floor l n r after) same goes e judged_there))
+  -- from a to b the moves before k, of so many, have been judged: however the rest ends, so does the whole
+  pub record Judging (moves k : ℕ) (so_far : List Pair) (a b : Searcher G S) : Type 0 where
+    pub leaves : Leaves means line a b
+    pub reads : b.store.now ≡ a.store.now
+    pub rest : (r : Option (List Pair)) (c : Searcher G S) → Judges k (moves - k) b r c → Judges 0 moves a (prepend so_far r) c
 
-  pub judged_kept : {G : Type 0} (means : G → Meaning) (line : G → Line) (g h : G) → Kept means line g h → (s : S) (floor k before : ℕ) (r : Option Pair) (after : ℕ)
-      → JudgedMove s (means h) floor (line h) k before r after → JudgedMove s (means g) floor (line g) k before r after
-  judged_kept means line g h kept s floor k before r after one =
-      subst₂ (λ (m : Meaning) (l : Line). JudgedMove s m floor l k before r after) kept.same kept.back one
-
-  -- n moves from k on
-  abbrev pub Evaluates : S → Meaning → ℕ → Line → ℕ → ℕ → ℕ → Option (List Pair) → ℕ → Type 0
-  Evaluates s m floor l k n before r after = Does 𝓢 (each (λ k. judge m floor (moves_left m l - 1) (k ∷ l)) k n) s s before r after
-
-  -- the moves before k have been judged: however the rest ends, so does the whole
-  pub record Judging (s : S) (m : Meaning) (floor : ℕ) (l : Line) (before k : ℕ) (so_far : List Pair) (left : ℕ) : Type 0 where
-    pub less : left ≤ before
-    pub rest : (r : Option (List Pair)) (after : ℕ)
-        → Evaluates s m floor l k ((m.view l).moves - k) left r after → Evaluates s m floor l 0 (m.view l).moves before (prepend so_far r) after
-
-  pub judging_none : (s : S) (m : Meaning) (floor : ℕ) (l : Line) (before : ℕ) → Judging s m floor l before 0 [] before
-  judging_none s m floor l before =
+  pub judging_none : (moves : ℕ) (a : Searcher G S) → Judging moves 0 [] a a
+  judging_none moves a =
       record {
-        less = omega arith;
-        rest = λ r after h.
-            subst (λ (q : Option (List Pair)). Evaluates s m floor l 0 (m.view l).moves before q after) (prepend_none r)
-            (subst (λ n. Evaluates s m floor l 0 n before r after) (sub-zero (m.view l).moves) h);
+        leaves = stays a;
+        reads = refl;
+        rest = λ r c h. subst (λ (q : Option (List Pair)). Judges 0 moves a q c) (prepend_none r) (rw sub-zero at h);
       }
 
-  rest_from : (s : S) (m : Meaning) (floor : ℕ) (l : Line) (before k : ℕ) (so_far : List Pair) (left : ℕ) → k < (m.view l).moves → Judging s m floor l before k so_far left
-      → (r : Option (List Pair)) (after : ℕ)
-      → Evaluates s m floor l k (suc ((m.view l).moves - suc k)) left r after → Evaluates s m floor l 0 (m.view l).moves before (prepend so_far r) after
-  rest_from s m floor l before k so_far left lt judging r after h =
-      let e : (m.view l).moves - k ≡ suc ((m.view l).moves - suc k) = omega arith in
-      judging.rest r after (rw e h)
+  rest_from : (moves k : ℕ) (so_far : List Pair) (a b : Searcher G S) → k < moves → Judging moves k so_far a b
+      → (r : Option (List Pair)) (c : Searcher G S) → Judges k (suc (moves - suc k)) b r c → Judges 0 moves a (prepend so_far r) c
+  rest_from moves k so_far a b lt judged r c h =
+      let e : moves - k ≡ suc (moves - suc k) = omega arith in
+      judged.rest r c (rw e h)
 
   -- one pair before those of the other moves
-  with_one : (s : S) (x : Part (List Pair)) (p : Pair) (before : ℕ) (r : Option (List Pair)) (after : ℕ)
-      → Does 𝓢 x s s before r after → Does 𝓢 (x >>= (λ qs. give (p ∷ qs))) s s before (prepend (p ∷ []) r) after
-  with_one s x p before None after h = does_exhausted 𝓢 x (λ qs. give (p ∷ qs)) s s before after after h
-  with_one s x p before (Some qs) after h = does_then 𝓢 x (λ qs. give (p ∷ qs)) s s s before after after qs (Some (p ∷ qs)) h (refl, refl)
+  abbrev with_rest : ℕ → ℕ → Pair → At (List Pair)
+  with_rest k n p m floor l = all_judging k n m floor l >>= (λ ps. give (p ∷ ps))
 
-  pub judging_more : (s : S) (m : Meaning) (floor : ℕ) (l : Line) (before k : ℕ) (so_far more : List Pair) (left after : ℕ) (p : Pair)
-      → k < (m.view l).moves → after ≤ left → more ≡ so_far ++ (p ∷ [])
-      → Judging s m floor l before k so_far left → JudgedMove s m floor l k left (Some p) after → Judging s m floor l before (k + 1) more after
-  judging_more s m floor l before k so_far more left after p lt le e judging one =
+  with_one : (k n : ℕ) (p : Pair) (a b : Searcher G S) (r : Option (List Pair)) → Judges k n a r b → Does means line 𝓢 (with_rest k n p) a (prepend (p ∷ []) r) b
+  with_one k n p a b None h = does_exhausted (all_judging k n) (λ ps m floor l. give (p ∷ ps)) h
+  with_one k n p a b (Some ps) h = does_then (all_judging k n) (λ ps m floor l. give (p ∷ ps)) h (does_give (p ∷ ps) b)
+
+  pub judging_more : (moves k : ℕ) (so_far more : List Pair) (p : Pair) (a b c : Searcher G S) → k < moves → more ≡ so_far ++ (p ∷ [])
+      → Judging moves k so_far a b → Judged k b (Some p) c → c.store.now ≡ b.store.now → Judging moves (k + 1) more a c
+  judging_more moves k so_far more p a b c lt e judged one reads =
       let up : k + 1 ≡ suc k = omega arith in
       record {
-        less = omega (arith, judging.less);
-        rest = λ r end h.
-            subst (λ (ps : List Pair). Evaluates s m floor l 0 (m.view l).moves before (prepend ps r) end) (sym e)
-            (subst (λ (q : Option (List Pair)). Evaluates s m floor l 0 (m.view l).moves before q end) (prepend_more so_far p r)
-            (rest_from s m floor l before k so_far left lt judging (prepend (p ∷ []) r) end
-            (does_then 𝓢 (played (judge m floor (moves_left m l - 1) (k ∷ l)))
-            (λ x. each (λ k. judge m floor (moves_left m l - 1) (k ∷ l)) (suc k) ((m.view l).moves - suc k) >>= (λ xs. give (x ∷ xs)))
-            s s s left after end p (prepend (p ∷ []) r) one
-            (with_one s (each (λ k. judge m floor (moves_left m l - 1) (k ∷ l)) (suc k) ((m.view l).moves - suc k)) p after r end
-            (subst (λ j. Evaluates s m floor l j ((m.view l).moves - j) after r end) up h)))));
+        leaves = leaves_then judged.leaves one.leaves;
+        reads = reads ∙ judged.reads;
+        rest = λ r d h.
+            subst (λ (ps : List Pair). Judges 0 moves a (prepend ps r) d) (sym e)
+            (subst (λ (q : Option (List Pair)). Judges 0 moves a q d) (prepend_more so_far p r)
+            (rest_from moves k so_far a b lt judged (prepend (p ∷ []) r) d
+            (does_then (after k judging) (with_rest (suc k) (moves - suc k)) one (with_one (suc k) (moves - suc k) p c d r (rw up at h)))));
       }
 
-  pub judging_exhausted : (s : S) (m : Meaning) (floor : ℕ) (l : Line) (before k : ℕ) (so_far : List Pair) (left after : ℕ) → k < (m.view l).moves
-      → Judging s m floor l before k so_far left → JudgedMove s m floor l k left None after → Does 𝓢 (evaluate m floor (moves_left m l - 1) l) s s before None after
-  judging_exhausted s m floor l before k so_far left after lt judging one =
-      rest_from s m floor l before k so_far left lt judging None after
-      (does_exhausted 𝓢 (played (judge m floor (moves_left m l - 1) (k ∷ l)))
-      (λ x. each (λ k. judge m floor (moves_left m l - 1) (k ∷ l)) (suc k) ((m.view l).moves - suc k) >>= (λ xs. give (x ∷ xs)))
-      s s left after after one)
+  pub judging_exhausted : (moves k : ℕ) (so_far : List Pair) (a b c : Searcher G S) → k < moves → moves ≡ ((means a.game.now).view (line a.game.now)).moves
+      → Judging moves k so_far a b → Judged k b None c → Does means line 𝓢 evaluating a None c
+  judging_exhausted moves k so_far a b c lt all judged one =
+      evaluated moves a c None all
+      (rest_from moves k so_far a b lt judged None c (does_exhausted (after k judging) (with_rest (suc k) (moves - suc k)) one))
 
-  pub judging_all : (s : S) (m : Meaning) (floor : ℕ) (l : Line) (before k : ℕ) (so_far all : List Pair) (left : ℕ) → (m.view l).moves ≤ k → so_far ≡ all
-      → Judging s m floor l before k so_far left → Does 𝓢 (evaluate m floor (moves_left m l - 1) l) s s before (Some all) left
-  judging_all s m floor l before k so_far all left le e judging =
-      let none_left : (m.view l).moves - k ≡ 0 = omega arith in
-      subst (λ (ps : List Pair). Evaluates s m floor l 0 (m.view l).moves before (Some ps) left) (append-nil so_far ∙ e)
-      (judging.rest (Some []) left (rw none_left (refl, refl)))
+  pub judging_all : (moves k : ℕ) (so_far ps : List Pair) (a b : Searcher G S) → moves ≤ k → moves ≡ ((means a.game.now).view (line a.game.now)).moves → so_far ≡ ps
+      → Judging moves k so_far a b → Does means line 𝓢 evaluating a (Some ps) b
+  judging_all moves k so_far ps a b le all e judged =
+      let none_left : moves - k ≡ 0 = omega arith in
+      evaluated moves a b (Some ps) all
+      (subst (λ (ps : List Pair). Judges 0 moves a (Some ps) b) (append-nil so_far ∙ e) (judged.rest (Some []) b (rw none_left (does_give [] b))))

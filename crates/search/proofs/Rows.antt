@@ -1,19 +1,16 @@
--- The numbers of a line's moves, read from the last to the first.
-use Rattle.std.proofs.Common.{◌≡◌, ℕ, zero, suc, ◌+◌, ◌-◌, ◌<◌, ◌≤◌, min, Bool, true, false, cond, ◌||◌, eqb, List, [], ◌∷◌, map, length, get_or, take, drop, sym, refl, ap, ◌∙◌, ap₂, arith, drop-cons}
+-- The numbers of a line's moves.
+use Rattle.std.proofs.Common.{◌≡◌, ℕ, zero, suc, ◌+◌, ◌-◌, ◌<◌, ◌≤◌, min, Bool, true, false, cond, not, ◌||◌, eqb, ltb, List, [], ◌∷◌, map, reverse, length, get_or, take, drop, Some, None, Option, unwrap_or, sym, refl, ap, ◌∙◌, ap₂, arith}
+use Rattle.std.specs.List.{fold, position, position_or_len}
 use Rattle.std.proofs.lemmas.Bool.Decides.{nat_tests}
+use Rattle.std.proofs.lemmas.List.{reverse-append}
+use Rattle.std.proofs.lemmas.List.Sums.{fold_push, prefix_len-le-length}
+use Rattle.std.proofs.lemmas.List.Recursion.{is_position_or_len}
 use Rattle.search_method.specs.declared.kinds.Pair.{Pair}
 use Rattle.search_method.specs.Pairs.{M, INF, unknown, seen, least, plain, endless, sum, first, others, pair_of, choice_of, limits_of, reached}
 use Rattle.search.specs.Numbers.{mine, theirs, plus, own_limit, other_limit, Small, AllSmall}
 
 abbrev pub zeros : Pair
 zeros = record { pn = 0; dn = 0 }
-
--- one element further to the front
-pub drop_back : (ps : List Pair) (i : ℕ) → 0 < i → i ≤ length ps → drop (i - 1) ps ≡ get_or ps (i - 1) zeros ∷ drop i ps
-drop_back ps i pos le =
-    let e : suc (i - 1) ≡ i = omega arith in
-    let h : drop (i - 1) ps ≡ get_or ps (i - 1) zeros ∷ drop (suc (i - 1)) ps = drop-cons ps (i - 1) zeros (omega arith) in
-    h ∙ ap (λ n. get_or ps (i - 1) zeros ∷ drop n ps) e
 
 -- a sum, one term more
 sum_by : (b c : Bool) (x p : ℕ) → eqb x INF ≡ b →
@@ -52,20 +49,37 @@ pub below_limits : (black : Bool) (limit : Pair) (ps : List Pair) → (limit.pn 
 below_limits true limit ps cap h = grind (arith, nat_tests)
 below_limits false limit ps cap h = grind (arith, nat_tests)
 
-module _ (black : Bool) (ps : List Pair) (i : ℕ) (pos : 0 < i) (le : i ≤ length ps) (p : Pair) (is : p ≡ seen black (get_or ps (i - 1) zeros)) where
-  pub least_back : (n r : ℕ) → n ≡ least (mine black (drop i ps)) → r ≡ min p.pn n → r ≡ least (mine black (drop (i - 1) ps))
-  least_back n r e f = rw (drop_back ps i pos le) (rw (← is, ← e) f)
+-- the numbers, read from the last to the first
+fold_back : {A B : Type 0} (f : B → A → B) (a : B) (x : A) (xs : List A) → fold f a (reverse (x ∷ xs)) ≡ f (fold f a (reverse xs)) x
+fold_back f a x xs = ap (fold f a) (reverse-append (x ∷ []) xs) ∙ fold_push f a (reverse xs) x
 
-  pub total_back : (n r : ℕ) → n ≡ sum (theirs black (drop i ps)) → r ≡ plus p.dn n → r ≡ sum (theirs black (drop (i - 1) ps))
-  total_back n r e f =
-      rw (drop_back ps i pos le) (rw (← is) (f ∙ (ap (plus p.dn) e ∙ sym (sum_more p.dn (theirs black (drop i ps))))))
+pub least_folds : (black : Bool) (ps : List Pair) → fold (λ n p. min (seen black p).pn n) INF (reverse ps) ≡ least (mine black ps)
+least_folds black [] = refl
+least_folds black (p ∷ ps) = fold_back (λ n p. min (seen black p).pn n) INF p ps ∙ ap (min (seen black p).pn) (least_folds black ps)
 
-  pub place_here : (x : ℕ) → p.pn ≡ x → 0 ≡ first x (mine black (drop (i - 1) ps))
-  place_here x e = rw (drop_back ps i pos le) (rw (← is, e) (let t : eqb x x ≡ true = grind (arith, nat_tests) in rw t))
+pub total_folds : (black : Bool) (ps : List Pair) → fold (λ n p. plus (seen black p).dn n) 0 (reverse ps) ≡ sum (theirs black ps)
+total_folds black [] = refl
+total_folds black (p ∷ ps) =
+    fold_back (λ n p. plus (seen black p).dn n) 0 p ps
+    ∙ (ap (plus (seen black p).dn) (total_folds black ps) ∙ sym (sum_more (seen black p).dn (theirs black ps)))
 
-  pub place_back : (x k : ℕ) → k ≡ first x (mine black (drop i ps)) → (p.pn ≡ x → ⊥) → k + 1 ≡ first x (mine black (drop (i - 1) ps))
-  place_back x k e ne =
-      rw (drop_back ps i pos le) (rw (← is, ← e) (let t : eqb p.pn x ≡ false = grind (arith, nat_tests) in rw t (omega arith)))
+none_before : (n len : ℕ) → n ≤ len → ltb n len ≡ false → len ≡ n
+none_before n len le e = grind (arith, nat_tests)
+
+-- the first place of a number is the first position, or the number of moves
+pub place_is : (black : Bool) (x : ℕ) (ps : List Pair) → unwrap_or (position (λ p. eqb (seen black p).pn x) ps) (length ps) ≡ first x (mine black ps)
+place_is black x ps = by (ltb (position_or_len is_x ps) (length ps)) refl ∙ sym (is_position_or_len (λ qs. first x (mine black qs)) is_x refl (λ p qs. stepped (is_x p) (first x (mine black qs))) ps)
+  where
+    is_x : Pair → Bool
+    is_x p = eqb (seen black p).pn x
+
+    stepped : (b : Bool) (n : ℕ) → cond b 0 (suc n) ≡ cond b 0 (1 + n)
+    stepped true n = refl
+    stepped false n = omega arith
+
+    by : (b : Bool) → ltb (position_or_len is_x ps) (length ps) ≡ b → unwrap_or (cond b (Some (position_or_len is_x ps)) None) (length ps) ≡ position_or_len is_x ps
+    by true e = refl
+    by false e = none_before (position_or_len is_x ps) (length ps) (prefix_len-le-length (λ p. not (is_x p)) ps) e
 
 -- the least and the sum are at most INF
 pub least_small : (xs : List ℕ) → least xs ≤ INF

@@ -1,19 +1,24 @@
--- The pairs of an initial evaluation have numbers up to INF.
+-- The pairs of an initial evaluation and of an expansion have numbers up to INF.
 use Rattle.std.proofs.Common.{◌≡◌, ℕ, zero, suc, Bool, true, false, cond, ◌&&◌, leb, List, [], ◌∷◌, set, Some, None, Option, refl, subst, arith}
 use Rattle.std.proofs.lemmas.Bool.Decides.{nat_tests}
 use Rattle.game.specs.declared.kinds.Score.{Score}
 use Rattle.game.specs.Kinds.{points}
 use Rattle.game.specs.Meaning.{Line, Meaning}
+use Rattle.game.specs.Value.{black_moves}
 use Rattle.store.specs.Interface.{StoreMeaning}
 use Rattle.store.specs.declared.entry.Entry.{Entry}
 use Rattle.store.specs.declared.entry.Finding.{Finding}
 use Rattle.store.specs.declared.entry.Finding.TheVariants.{Verdict, Open}
 use Rattle.search_method.specs.declared.kinds.Pair.{Pair}
+use Rattle.search_method.specs.declared.kinds.Worked.{Worked}
 use Rattle.search_method.specs.Tree.{Tree, done, ask, note, bind, Runs}
 use Rattle.search_method.specs.Bound.{Always}
-use Rattle.search_method.specs.Pairs.{settled, unknown, between, in_range}
-use Rattle.search_method.specs.Search.{Out, exhausted, got, Part, give, next, ◌>>=◌, either, played, each, judged, simulate, confirm, appraise_by, appraise, judge, evaluate}
+use Rattle.search_method.specs.Pairs.{settled, unknown, between, in_range, choice_of, limits_of, reached}
+use Rattle.search_method.specs.Search.{Out, exhausted, got, Part, give, next, ◌>>=◌, either, played, each, judged, simulate, confirm, appraise_by, appraise, judge, evaluate, line_pair, leave, resume, turns, expand, moves_left}
+use Rattle.search.specs.declared.searcher.Searcher.{Searcher}
 use Rattle.search.specs.Does.{Does}
+use Rattle.search.specs.Parts.{after, judging, evaluating, expanding}
+use Rattle.search.proofs.Rows.{pair_small}
 use Rattle.search.specs.Numbers.{Small, AllSmall}
 
 always_runs : {S A : Type 0} (𝓢 : StoreMeaning S) (P : A → Type 0) (x : Tree A) (s t : S) (r : A) → Always P x → Runs 𝓢 x s t r → P r
@@ -79,14 +84,14 @@ judge_small m floor h l n = by (m.view l).score
     by (Some s) = settled_small (leb floor (points s))
     by None = λ o. appraise_small m floor h l o n
 
-played_small : (s : Part Pair) → ((n : ℕ) → Always (IfGot Small) (s n)) → (n : ℕ) → Always (IfGot Small) (played s n)
-played_small s h zero = tt
-played_small s h (suc n) = h n
+played_small : {A : Type 0} (P : A → Type 0) (s : Part A) → ((n : ℕ) → Always (IfGot P) (s n)) → (n : ℕ) → Always (IfGot P) (played s n)
+played_small P s h zero = tt
+played_small P s h (suc n) = h n
 
 each_small : (s : ℕ → Part Pair) → ((k n : ℕ) → Always (IfGot Small) (s k n)) → (r k n : ℕ) → Always (IfGot AllSmall) (each s k r n)
 each_small s h zero k n = tt
 each_small s h (suc r) k n =
-    always_bind (IfGot AllSmall) (IfGot Small) (played (s k) n) (next (λ x. each s (suc k) r >>= (λ xs. give (x ∷ xs)))) (played_small (s k) (h k) n)
+    always_bind (IfGot AllSmall) (IfGot Small) (played (s k) n) (next (λ x. each s (suc k) r >>= (λ xs. give (x ∷ xs)))) (played_small Small (s k) (h k) n)
     (after (each_small s h r (suc k)))
   where
     last : (x : Pair) → Small x → (o : Out (List Pair)) → IfGot AllSmall o → Always (IfGot AllSmall) (next (λ xs. give (x ∷ xs)) o)
@@ -99,11 +104,44 @@ each_small s h (suc r) k n =
     after ih (got x n) small =
         always_bind (IfGot AllSmall) (IfGot AllSmall) (each s (suc k) r n) (next (λ xs. give (x ∷ xs))) (ih n) (last x small)
 
-pub evaluate_small : {S : Type 0} (𝓢 : StoreMeaning S) (s t : S) (m : Meaning) (floor h : ℕ) (l : Line) (before after : ℕ) (ps : List Pair)
-    → Does 𝓢 (evaluate m floor h l) s t before (Some ps) after → AllSmall ps
-evaluate_small 𝓢 s t m floor h l before after ps run =
-    always_runs 𝓢 (IfGot AllSmall) (evaluate m floor h l before) s t (got ps after)
-    (each_small (λ k. judge m floor h (k ∷ l)) (λ k n. judge_small m floor h (k ∷ l) n) (m.view l).moves 0 before) run
+-- what comes of a line has the pair of its row
+abbrev pub SmallPair : Worked → Type 0
+SmallPair w = Small w.pair
+
+turns_small : (m : Meaning) (floor : ℕ) (go : Line → Pair → Part Worked) (f : ℕ) (l : Line) (lim : Pair) (ps : List Pair) (n : ℕ) → Always (IfGot SmallPair) (turns m floor go f l lim ps n)
+unfolding turns
+turns_small m floor go zero l lim ps n = tt
+turns_small m floor go (suc f) l lim ps n = by (λ qs n. turns_small m floor go f l lim qs n) (reached lim (line_pair m l ps))
+  where
+    by : ((qs : List Pair) (n : ℕ) → Always (IfGot SmallPair) (turns m floor go f l lim qs n)) → (b : Bool) → Always (IfGot SmallPair) (either b (leave m floor l ps)
+        (λ n'. bind (played (go (choice_of (black_moves (m.view l)) ps ∷ l) (limits_of (black_moves (m.view l)) lim ps)) n') (resume m floor (turns m floor go f l lim) l ps)) n)
+    by ih true = pair_small (black_moves (m.view l)) ps
+    by ih false =
+        always_bind (IfGot SmallPair) (λ (o : Out Worked). Unit {0}) (played (go (choice_of (black_moves (m.view l)) ps ∷ l) (limits_of (black_moves (m.view l)) lim ps)) n) (resume m floor (turns m floor go f l lim) l ps)
+        (always_any (played (go (choice_of (black_moves (m.view l)) ps ∷ l) (limits_of (black_moves (m.view l)) lim ps)) n)) (λ o u. elim o as (λ o. Always (IfGot SmallPair) (resume m floor (turns m floor go f l lim) l ps o)) [ exhausted ↦ tt | got w n ↦ ih (set ps (choice_of (black_moves (m.view l)) ps) w.pair) n ])
+
+expand_small : (m : Meaning) (floor h : ℕ) (l : Line) (lim : Pair) (n : ℕ) → Always (IfGot SmallPair) (expand m floor h l lim n)
+unfolding expand
+expand_small m floor zero l lim n = tt
+expand_small m floor (suc h) l lim n =
+    always_bind (IfGot SmallPair) (λ (o : Out (List Pair)). Unit {0}) (evaluate m floor h l n) (next (λ ps n'. turns m floor (expand m floor h) (suc n') l lim ps n'))
+    (always_any (evaluate m floor h l n)) (λ o u. after o)
+  where
+    after : (o : Out (List Pair)) → Always (IfGot SmallPair) (next (λ ps n'. turns m floor (expand m floor h) (suc n') l lim ps n') o)
+    after exhausted = tt
+    after (got ps n) = turns_small m floor (expand m floor h) (suc n) l lim ps n
+
+module _ {G S : Type 0} (means : G → Meaning) (line : G → Line) (𝓢 : StoreMeaning S) where
+  pub evaluate_small : (ps : List Pair) (a b : Searcher G S) → Does means line 𝓢 evaluating a (Some ps) b → AllSmall ps
+  evaluate_small ps a b h =
+      always_runs 𝓢 (IfGot AllSmall) (evaluating (means a.game.now) a.floor (line a.game.now) a.left) a.store.now b.store.now (got ps b.left)
+      (each_small (λ k. judging (means a.game.now) a.floor (k ∷ line a.game.now)) (λ k n. judge_small (means a.game.now) a.floor (moves_left (means a.game.now) (k ∷ line a.game.now)) (k ∷ line a.game.now) n)
+      ((means a.game.now).view (line a.game.now)).moves 0 a.left) h.runs
+
+  pub moved_small : (k : ℕ) (limit : Pair) (w : Worked) (a b : Searcher G S) → Does means line 𝓢 (after k (expanding limit)) a (Some w) b → Small w.pair
+  moved_small k limit w a b h =
+      always_runs 𝓢 (IfGot SmallPair) (after k (expanding limit) (means a.game.now) a.floor (line a.game.now) a.left) a.store.now b.store.now (got w b.left)
+      (played_small SmallPair (expanding limit (means a.game.now) a.floor (k ∷ line a.game.now)) (expand_small (means a.game.now) a.floor (moves_left (means a.game.now) (k ∷ line a.game.now)) (k ∷ line a.game.now) limit) a.left) h.runs
 
 pub all_small_set : (ps : List Pair) (k : ℕ) (p : Pair) → AllSmall ps → Small p → AllSmall (set ps k p)
 all_small_set [] k p h small = h

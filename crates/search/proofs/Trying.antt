@@ -1,37 +1,44 @@
--- Simulation: the moves that are tried.
-use Rattle.std.proofs.Common.{◌≡◌, ℕ, zero, suc, ◌+◌, ◌-◌, ◌<◌, ◌≤◌, Bool, true, false, cond, ◌&&◌, eqb, ltb, ◌∷◌, Some, None, Option, refl, ap, subst, subst₂, arith}
+-- Simulation: what a line comes to by its step, and the moves that are tried.
+use Rattle.std.proofs.Common.{◌≡◌, ℕ, zero, suc, ◌+◌, ◌-◌, ◌<◌, ◌≤◌, Bool, true, false, cond, ◌&&◌, ltb, ◌∷◌, Some, None, Option, sym, refl, ap, ◌∙◌, subst, arith}
 use native.Mathlib.Nat.{sub-zero}
-use mathlib.Core.Path.{subst₃}
 use mathlib.Core.Bool.{beq}
 use Rattle.std.proofs.lemmas.Bool.Decides.{nat_tests}
-use Rattle.game.specs.Meaning.{Line, Meaning}
+use Rattle.game.specs.Meaning.{Line, View, Meaning}
 use Rattle.game.specs.Value.{black_moves}
 use Rattle.store.specs.Interface.{StoreMeaning}
 use Rattle.store.specs.declared.entry.Entry.{Entry}
 use Rattle.store.specs.declared.entry.Finding.{Finding}
 use Rattle.store.specs.declared.entry.Finding.TheVariants.{Verdict, Open}
 use Rattle.search_method.specs.Search.{Part, give, either, played, every, decide, settles, claim_by, by_entry, holds_at, simulate, moves_left}
+use Rattle.search.specs.declared.searcher.Searcher.{Searcher}
 use Rattle.search.specs.declared.simulation.Step.{Step}
 use Rattle.search.specs.declared.simulation.Step.TheVariants.{Stop, One, All}
-use Rattle.game.specs.Kept.{Kept}
-use Rattle.search.specs.Does.{Does}
-use Rattle.search.specs.Steps.{step_without, step_by, step_of, take, onward}
-use Rattle.search.proofs.Doing.{does_then, does_exhausted, play_more, could_play}
+use Rattle.search.specs.Moves.{Leaves}
+use Rattle.search.specs.Does.{At, Does}
+use Rattle.search.specs.Parts.{after, simulation, holding, all_holding}
+use Rattle.search.specs.Steps.{step_without, step_by, step_of, go_by}
+use Rattle.search.proofs.Doing.{less_left, stays, leaves_then, does_give, does_as, does_then, does_exhausted}
+
+-- what a step comes to, where `go` simulates one move on
+abbrev stepped : (ℕ → Part Bool) → Step → Part Bool
+stepped go (Stop held) = give held
+stepped go (One k) = played (go k)
+stepped go (All n) = every go 0 n
 
 -- what a line that is not over comes to is what its step comes to
 module _ (m : Meaning) (go : Line → Part Bool) (l : Line) (v : Bool) (n : ℕ) where
-  without : (b : Bool) → either b (give false) (every (λ k. go (k ∷ l)) 0 (m.view l).moves) n ≡ take go l (step_without b (m.view l).moves) n
+  without : (b : Bool) → either b (give false) (every (λ k. go (k ∷ l)) 0 (m.view l).moves) n ≡ stepped (λ k. go (k ∷ l)) (step_without b (m.view l).moves) n
   without true = refl
   without false = refl
 
   verdict_step : (b w c : Bool) (k : ℕ) →
       decide v (settles m l (Verdict w c k)) (either b (claim_by m go l v (Verdict w c k)) (every (λ k. go (k ∷ l)) 0 (m.view l).moves)) n
-      ≡ take go l (step_by b (m.view l).moves (m.view l).independent v (Verdict w c k)) n
+      ≡ stepped (λ k. go (k ∷ l)) (step_by b (m.view l).moves (m.view l).independent v (Verdict w c k)) n
   verdict_step b w c k = by (c && (m.view l).independent) b (beq w v && ltb k (m.view l).moves)
     where
       by : (x b y : Bool) →
           decide v (cond x (Some w) None) (either b (either y (played (go (k ∷ l))) (give false)) (every (λ k. go (k ∷ l)) 0 (m.view l).moves)) n
-          ≡ take go l (cond x (Stop (beq w v)) (cond b (cond y (One k) (Stop false)) (All (m.view l).moves))) n
+          ≡ stepped (λ k. go (k ∷ l)) (cond x (Stop (beq w v)) (cond b (cond y (One k) (Stop false)) (All (m.view l).moves))) n
       by true b y = refl
       by false true true = refl
       by false true false = refl
@@ -39,12 +46,11 @@ module _ (m : Meaning) (go : Line → Part Bool) (l : Line) (v : Bool) (n : ℕ)
 
   entry_step : (f : Finding) →
       decide v (settles m l f) (either (beq v (black_moves (m.view l))) (claim_by m go l v f) (every (λ k. go (k ∷ l)) 0 (m.view l).moves)) n
-      ≡ take go l (step_by (beq v (black_moves (m.view l))) (m.view l).moves (m.view l).independent v f) n
+      ≡ stepped (λ k. go (k ∷ l)) (step_by (beq v (black_moves (m.view l))) (m.view l).moves (m.view l).independent v f) n
   entry_step (Open p d) = without (beq v (black_moves (m.view l)))
   entry_step (Verdict w c k) = verdict_step (beq v (black_moves (m.view l))) w c k
 
-  pub by_step : (o : Option Entry) →
-      by_entry m go l v o n ≡ take go l (step_of (black_moves (m.view l)) (m.view l).moves (m.view l).independent v o) n
+  by_step : (o : Option Entry) → by_entry m go l v o n ≡ stepped (λ k. go (k ∷ l)) (step_of (m.view l) v o) n
   by_step None = without (beq v (black_moves (m.view l)))
   by_step (Some e) = entry_step e.finding
 
@@ -56,97 +62,71 @@ simulate_more m floor zero l v o n pos = absurd (omega arith)
 simulate_more m floor (suc h) l v o n pos =
     ap (λ j. by_entry m (λ q. holds_at m floor (simulate m floor j q v) q v) l v o n) (omega arith)
 
--- one move of a step is legal
-pub one_legal : (black : Bool) (moves : ℕ) (independent v : Bool) (o : Option Entry) (k : ℕ) → One k ≡ step_of black moves independent v o → k < moves
-one_legal black moves independent v None k e = grind (arith, nat_tests)
-one_legal black moves independent v (Some e) k f = by e.finding f
-  where
-    by : (x : Finding) → One k ≡ step_by (beq v black) moves independent v x → k < moves
-    by (Open p d) e = grind (arith, nat_tests)
-    by (Verdict w c j) e = grind (arith, nat_tests)
+goes_by : (m : Meaning) (floor : ℕ) (l : Line) (v : Bool) (s : Step) →
+    stepped (λ k. holds_at m floor (simulate m floor (moves_left m l - 1) (k ∷ l) v) (k ∷ l) v) s ≡ go_by v s m floor l
+goes_by m floor l v (Stop held) = refl
+goes_by m floor l v (One k) = λ i. played (holds_at m floor (simulate m floor (less_left m l k i) (k ∷ l) v) (k ∷ l) v)
+goes_by m floor l v (All n) = λ i. every (λ k. holds_at m floor (simulate m floor (less_left m l k i) (k ∷ l) v) (k ∷ l) v) 0 n
 
-module _ {S : Type 0} (𝓢 : StoreMeaning S) where
-  -- what `simulate` ensures, what `holds_now` ensures, and what `try_move` ensures
-  abbrev pub Simulated : S → Meaning → ℕ → Bool → Line → Option Entry → ℕ → Option Bool → ℕ → Type 0
-  Simulated s m floor v l o before r after = Does 𝓢 (simulate m floor (moves_left m l) l v o) s s before r after
+module _ {G S : Type 0} (means : G → Meaning) (line : G → Line) (𝓢 : StoreMeaning S) where
+  -- what `simulate` does, and what `try_move` does
+  pub simulates : (v : Bool) (o : Option Entry) (step : Step) {a b : Searcher G S} {r : Option Bool}
+      → 0 < moves_left (means a.game.now) (line a.game.now) → step ≡ step_of ((means a.game.now).view (line a.game.now)) v o
+      → Does means line 𝓢 (go_by v step) a r b → Does means line 𝓢 (simulation v o) a r b
+  simulates v o step {a} pos e h =
+      let m : Meaning = means a.game.now in
+      let l : Line = line a.game.now in
+      does_as (simulation v o) (go_by v step)
+      (simulate_more m a.floor (moves_left m l) l v o a.left pos
+      ∙ by_step m (λ q. holds_at m a.floor (simulate m a.floor (moves_left m l - 1) q v) q v) l v a.left o
+      ∙ (λ i. goes_by m a.floor l v (sym e i) i a.left)) h
 
-  abbrev pub Holds : S → Meaning → ℕ → Bool → Line → ℕ → Option Bool → ℕ → Type 0
-  Holds s m floor v l before r after = Does 𝓢 (holds_at m floor (simulate m floor (moves_left m l) l v) l v) s s before r after
+  abbrev pub Tried : Bool → ℕ → Searcher G S → Option Bool → Searcher G S → Type 0
+  Tried v k a r b = Does means line 𝓢 (after k (holding v)) a r b
 
-  abbrev pub Tried : S → Meaning → ℕ → Bool → Line → ℕ → ℕ → Option Bool → ℕ → Type 0
-  Tried s m floor v l k before r after = Does 𝓢 (played (onward m floor v l (k ∷ l))) s s before r after
+  -- the moves that are left to be tried
+  abbrev pub Tries : Bool → ℕ → ℕ → Searcher G S → Option Bool → Searcher G S → Type 0
+  Tries v k n a r b = Does means line 𝓢 (all_holding v k n) a r b
 
-  pub simulated : (s : S) (m : Meaning) (floor : ℕ) (v : Bool) (l : Line) (o : Option Entry) (step : Step) (before : ℕ) (r : Option Bool) (after : ℕ)
-      → 0 < moves_left m l → step ≡ step_of (black_moves (m.view l)) (m.view l).moves (m.view l).independent v o
-      → Does 𝓢 (take (onward m floor v l) l step) s s before r after → Simulated s m floor v l o before r after
-  simulated s m floor v l o step before r after pos e h =
-      rw (simulate_more m floor (moves_left m l) l v o before pos, by_step m (onward m floor v l) l v before o, ← e) h
+  -- from a to b the moves before k were tried and hold: however the rest ends, so does the whole
+  pub record Trying (v : Bool) (moves k : ℕ) (a b : Searcher G S) : Type 0 where
+    pub leaves : Leaves means line a b
+    pub reads : b.store.now ≡ a.store.now
+    pub rest : (r : Option Bool) (c : Searcher G S) → Tries v k (moves - k) b r c → Tries v 0 moves a r c
 
-  pub tried : (s : S) (m n : Meaning) (floor : ℕ) (v : Bool) (l l' : Line) (k before one_less : ℕ) (r : Option Bool) (after : ℕ)
-      → Some (tt {0}) ≡ cond (eqb before 0) None (Some (tt {0})) → one_less ≡ before - 1 → n ≡ m → l' ≡ k ∷ l
-      → Holds s n floor v l' one_less r after → Tried s m floor v l k before r after
-  tried s m n floor v l l' k before one_less r after some_left e same goes sim =
-      let pos : 0 < before = could_play before some_left in
-      let less_deep : moves_left m (k ∷ l) ≡ moves_left m l - 1 = omega arith in
-      rw (play_more (onward m floor v l (k ∷ l)) before pos)
-      (subst (λ d. Does 𝓢 (holds_at m floor (simulate m floor d (k ∷ l) v) (k ∷ l) v) s s (before - 1) r after) less_deep
-      (subst₃ (λ (m : Meaning) (l : Line) (n : ℕ). Holds s m floor v l n r after) same goes e sim))
-
-  pub tried_kept : {G : Type 0} (means : G → Meaning) (line : G → Line) (g h : G) → Kept means line g h → (s : S) (floor : ℕ) (v : Bool) (k before : ℕ) (r : Option Bool) (after : ℕ)
-      → Tried s (means h) floor v (line h) k before r after → Tried s (means g) floor v (line g) k before r after
-  tried_kept means line g h kept s floor v k before r after one =
-      subst₂ (λ (m : Meaning) (l : Line). Tried s m floor v l k before r after) kept.same kept.back one
-
-  -- n moves from k on
-  abbrev pub Tries : S → Meaning → ℕ → Bool → Line → ℕ → ℕ → ℕ → Option Bool → ℕ → Type 0
-  Tries s m floor v l k n before r after = Does 𝓢 (every (λ k. onward m floor v l (k ∷ l)) k n) s s before r after
-
-  -- the moves before k hold: however the rest ends, so does the whole
-  pub record Trying (s : S) (m : Meaning) (floor : ℕ) (v : Bool) (l : Line) (moves before k left : ℕ) : Type 0 where
-    pub less : left ≤ before
-    pub rest : (r : Option Bool) (after : ℕ) → Tries s m floor v l k (moves - k) left r after → Tries s m floor v l 0 moves before r after
-
-  pub trying_none : (s : S) (m : Meaning) (floor : ℕ) (v : Bool) (l : Line) (moves before : ℕ) → Trying s m floor v l moves before 0 before
-  trying_none s m floor v l moves before = record { less = omega arith; rest = λ r after h. rw sub-zero at h }
+  pub trying_none : (v : Bool) (moves : ℕ) (a : Searcher G S) → Trying v moves 0 a a
+  trying_none v moves a = record { leaves = stays a; reads = refl; rest = λ r c h. rw sub-zero at h }
 
   -- the rest, where it begins with the move k
-  rest_from : (s : S) (m : Meaning) (floor : ℕ) (v : Bool) (l : Line) (moves before k left : ℕ) → k < moves → Trying s m floor v l moves before k left
-      → (r : Option Bool) (after : ℕ)
-      → Tries s m floor v l k (suc (moves - suc k)) left r after → Tries s m floor v l 0 moves before r after
-  rest_from s m floor v l moves before k left lt so_far r after h =
+  rest_from : (v : Bool) (moves k : ℕ) (a b : Searcher G S) → k < moves → Trying v moves k a b
+      → (r : Option Bool) (c : Searcher G S) → Tries v k (suc (moves - suc k)) b r c → Tries v 0 moves a r c
+  rest_from v moves k a b lt so_far r c h =
       let e : moves - k ≡ suc (moves - suc k) = omega arith in
-      so_far.rest r after (rw e h)
+      so_far.rest r c (rw e h)
 
-  pub trying_more : (s : S) (m : Meaning) (floor : ℕ) (v : Bool) (l : Line) (moves before k left after : ℕ) (held : Bool) → k < moves → after ≤ left → held ≡ true
-      → Trying s m floor v l moves before k left → Tried s m floor v l k left (Some held) after → Trying s m floor v l moves before (k + 1) after
-  trying_more s m floor v l moves before k left after held lt le e so_far tried_held =
-      let one : Tried s m floor v l k left (Some true) after = subst (λ b. Tried s m floor v l k left (Some b) after) e tried_held in
+  -- after the move k: what is left where it holds, and what the whole comes to where it does not
+  abbrev onward : Bool → ℕ → ℕ → Bool → At Bool
+  onward v k n held m floor l = either held (all_holding v k n m floor l) (give false)
+
+  pub trying_more : (v : Bool) (moves k : ℕ) (a b c : Searcher G S) → k < moves → Trying v moves k a b
+      → Tried v k b (Some true) c → c.store.now ≡ b.store.now → Trying v moves (k + 1) a c
+  trying_more v moves k a b c lt so_far one reads =
       let up : k + 1 ≡ suc k = omega arith in
       record {
-        less = omega (arith, so_far.less);
-        rest = λ r end h.
-            rest_from s m floor v l moves before k left lt so_far r end
-            (does_then 𝓢 (played (onward m floor v l (k ∷ l))) _ s s s left after end true r one
-            (subst (λ j. Tries s m floor v l j (moves - j) after r end) up h));
+        leaves = leaves_then so_far.leaves one.leaves;
+        reads = reads ∙ so_far.reads;
+        rest = λ r d h. rest_from v moves k a b lt so_far r d (does_then (after k (holding v)) (onward v (suc k) (moves - suc k)) one (rw up at h));
       }
 
-  -- a move that does not hold ends the moves
-  pub trying_fails : (s : S) (m : Meaning) (floor : ℕ) (v : Bool) (l : Line) (moves before k left after : ℕ) (held : Bool) → k < moves → held ≡ false
-      → Trying s m floor v l moves before k left → Tried s m floor v l k left (Some held) after
-      → Tries s m floor v l 0 moves before (Some false) after
-  trying_fails s m floor v l moves before k left after held lt e so_far tried_held =
-      let one : Tried s m floor v l k left (Some false) after = subst (λ b. Tried s m floor v l k left (Some b) after) e tried_held in
-      rest_from s m floor v l moves before k left lt so_far (Some false) after
-      (does_then 𝓢 (played (onward m floor v l (k ∷ l))) _ s s s left after after false (Some false) one (refl, refl))
+  pub trying_fails : (v : Bool) (moves k : ℕ) (a b c : Searcher G S) → k < moves → Trying v moves k a b → Tried v k b (Some false) c → Tries v 0 moves a (Some false) c
+  trying_fails v moves k a b c lt so_far one =
+      rest_from v moves k a b lt so_far (Some false) c (does_then (after k (holding v)) (onward v (suc k) (moves - suc k)) one (does_give false c))
 
-  pub trying_exhausted : (s : S) (m : Meaning) (floor : ℕ) (v : Bool) (l : Line) (moves before k left after : ℕ) → k < moves
-      → Trying s m floor v l moves before k left → Tried s m floor v l k left None after
-      → Tries s m floor v l 0 moves before None after
-  trying_exhausted s m floor v l moves before k left after lt so_far one =
-      rest_from s m floor v l moves before k left lt so_far None after
-      (does_exhausted 𝓢 (played (onward m floor v l (k ∷ l))) _ s s left after after one)
+  pub trying_exhausted : (v : Bool) (moves k : ℕ) (a b c : Searcher G S) → k < moves → Trying v moves k a b → Tried v k b None c → Tries v 0 moves a None c
+  trying_exhausted v moves k a b c lt so_far one =
+      rest_from v moves k a b lt so_far None c (does_exhausted (after k (holding v)) (onward v (suc k) (moves - suc k)) one)
 
-  pub trying_all : (s : S) (m : Meaning) (floor : ℕ) (v : Bool) (l : Line) (moves before k left : ℕ) → moves ≤ k
-      → Trying s m floor v l moves before k left → Tries s m floor v l 0 moves before (Some true) left
-  trying_all s m floor v l moves before k left le so_far =
-      let e : moves - k ≡ 0 = omega arith in so_far.rest (Some true) left (rw e (refl, refl))
+  pub trying_all : (v : Bool) (moves k : ℕ) (a b : Searcher G S) → moves ≤ k → Trying v moves k a b → Tries v 0 moves a (Some true) b
+  trying_all v moves k a b le so_far =
+      let e : moves - k ≡ 0 = omega arith in
+      so_far.rest (Some true) b (rw e (does_give true b))

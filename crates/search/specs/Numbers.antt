@@ -3,7 +3,6 @@ use Rattle.std.specs.Prelude.{ℕ, ◌+◌, ◌-◌, ◌<◌, ◌≤◌, min, Bo
 use Rattle.store.specs.declared.entry.Finding.{Finding}
 use Rattle.store.specs.declared.entry.Finding.TheVariants.{Verdict, Open}
 use Rattle.search_method.specs.declared.kinds.Pair.{Pair}
-use Rattle.search_method.specs.declared.kinds.Worked.{Worked}
 use Rattle.search_method.specs.Pairs.{M, INF, seen, pns, dns, pair_of, first}
 
 -- the numbers that the side on turn wants to be small, and the others
@@ -37,10 +36,6 @@ Small p = (p.pn ≤ INF) × (p.dn ≤ INF)
 abbrev pub AllSmall : List Pair → Type 0
 AllSmall [] = Unit {0}
 AllSmall (p ∷ ps) = Small p × AllSmall ps
-
-abbrev pub SmallAnswer : Option Worked → Type 0
-SmallAnswer None = Unit {0}
-SmallAnswer (Some w) = Small w.pair
 
 -- an answer has cost a play
 abbrev pub Costs : {A : Type 0} → Option A → ℕ → ℕ → Type 0

@@ -5,16 +5,16 @@
 // that this is a run of the definition in the crate `search_method`, and names the theorems about it. The caller lends
 // the work memory: a `memory::LineRecord` for each line that is being expanded, and a `Pair` for each of its moves.
 //
-// Behind it, each part of the code does one part of the definition: `simulation` tests a verdict that was found by
-// another path, `evaluation` judges each move of a line, `expansion` expands the most promising move, turn after turn.
-// `pairs` has the proof and disproof numbers, `line` reads and moves the game, `budget` counts the plays.
+// Behind it, a `Searcher` has the game at its line, the store, the floor and the plays that are left. Each part of the code
+// does one part of the definition with it: `simulation` tests a verdict that was found by another path, `evaluation`
+// judges each move of a line, `expansion` expands the most promising move, turn after turn. `pairs` has the proof and
+// disproof numbers.
 #![tactic(auto)]
 
-mod budget;
 mod evaluation;
 mod expansion;
-mod line;
 pub mod memory;
 mod pairs;
+mod searcher;
 mod simulation;
 pub mod solve;

@@ -1,7 +1,7 @@
 // Proof and disproof numbers: the pair of a line from those of its moves, the move to expand next and its limits.
-ghost use Rattle.std.specs.Prelude.{◌≡◌, ℕ, ◌+◌, ◌<◌, ◌≤◌, false, length};
+ghost use Rattle.std.specs.Prelude.{◌≡◌, ℕ, ◌+◌, ◌<◌, ◌≤◌, ◌==◌, false, length, position};
 ghost use Rattle.search.specs.Numbers.{mine, theirs, plus, own_limit, other_limit, finding_of, Small, AllSmall};
-ghost use Rattle.search_method.specs.Pairs.{settled, seen, least, sum, first, others, pair_of, choice_of, limits_of, reached};
+ghost use Rattle.search_method.specs.Pairs.{settled, unknown, in_range, seen, least, sum, first, others, pair_of, choice_of, limits_of, reached};
 
 use search_method::kinds::Pair;
 use store::entry::Finding;
@@ -11,6 +11,13 @@ pub(crate) const INF: u32 = 1_048_576;
 
 // The greatest number of an open pair.
 pub(crate) const MOST: u32 = 1_048_575;
+
+// The pair of a move of which nothing is known.
+pub(crate) fn unknown_pair() -> Pair
+    ensures { result ≡ unknown }
+{
+    Pair { pn: 1, dn: 1 }
+}
 
 // The pair of a verdict.
 pub(crate) fn verdict_pair(yes: bool) -> Pair
@@ -23,6 +30,18 @@ pub(crate) fn verdict_pair(yes: bool) -> Pair
     }
 }
 
+// The pair of open numbers, where both are numbers of an open pair.
+pub(crate) fn open_pair(pn: u32, dn: u32) -> Pair
+    ensures { result ≡ in_range pn dn }
+{
+    if (1..=MOST).contains(&pn) && (1..=MOST).contains(&dn) {
+        Pair { pn, dn }
+    } else {
+        unknown_pair()
+    }
+}
+
+// A pair as the side on turn sees it, and back: for White the two numbers trade roles.
 fn facing(black: bool, p: Pair) -> Pair
     ensures { result ≡ seen black p }
 {
@@ -41,77 +60,6 @@ fn add(x: u32, y: u32) -> u32
     } else {
         x.saturating_add(y).min(MOST)
     }
-}
-
-fn least_of(black: bool, pairs: &[Pair]) -> u32
-    ensures { result ≡ least (mine black pairs.now) }
-{
-    let mut n = INF;
-    let mut i = pairs.len();
-    while i > 0 {
-        i -= 1;
-        n = facing(black, pairs[i]).pn.min(n);
-    }
-    n
-}
-
-fn total_of(black: bool, pairs: &[Pair]) -> u32
-    ensures { result ≡ sum (theirs black pairs.now) }
-{
-    let mut n = 0;
-    let mut i = pairs.len();
-    while i > 0 {
-        i -= 1;
-        n = add(facing(black, pairs[i]).dn, n);
-    }
-    n
-}
-
-fn place_of(black: bool, x: u32, pairs: &[Pair]) -> usize
-    ensures is { result ≡ first x (mine black pairs.now) }
-    ensures within { result ≤ length pairs.now }
-{
-    let mut k = 0;
-    let mut i = pairs.len();
-    while i > 0 {
-        i -= 1;
-        k = if facing(black, pairs[i]).pn == x {
-            0
-        } else {
-            k + 1
-        };
-    }
-    k
-}
-
-// The pair of a line from those of its moves.
-pub(crate) fn line_pair(black: bool, pairs: &[Pair]) -> Pair
-    ensures is { result ≡ pair_of black pairs.now }
-    ensures small { Small result }
-{
-    facing(
-        black,
-        Pair {
-            pn: least_of(black, pairs),
-            dn: total_of(black, pairs),
-        },
-    )
-}
-
-pub(crate) fn reaches(limit: Pair, pair: Pair) -> bool
-    ensures { result ≡ reached limit pair }
-{
-    pair.pn >= limit.pn || pair.dn >= limit.dn
-}
-
-// The move to expand next: the first with the least number.
-pub(crate) fn choose_move(black: bool, limit: Pair, pairs: &[Pair]) -> usize
-    requires capped { Small limit }
-    requires below { reached limit (pair_of black pairs.now) ≡ false }
-    ensures is { result ≡ choice_of black pairs.now }
-    ensures within { result < length pairs.now }
-{
-    place_of(black, least_of(black, pairs), pairs)
 }
 
 fn own_limit(limit: u32, second: u32) -> u32
@@ -133,54 +81,135 @@ fn other_limit(limit: u32, total: u32, own: u32) -> u32
     }
 }
 
-// The least number among the other moves.
-fn second_of(black: bool, pairs: &[Pair], k: usize) -> u32
-    requires { k < length pairs.now }
-    ensures { result ≡ least (others k (mine black pairs.now)) }
+pub(crate) fn reaches(limit: Pair, pair: Pair) -> bool
+    ensures { result ≡ reached limit pair }
 {
-    least_of(black, &pairs[0..k]).min(least_of(black, &pairs[k + 1..]))
+    pair.pn >= limit.pn || pair.dn >= limit.dn
 }
 
-// The limits under which that move, at k, is expanded.
-pub(crate) fn limits_of(black: bool, limit: Pair, pairs: &[Pair], k: usize) -> Pair
-    requires chosen { k ≡ choice_of black pairs.now }
-    requires within { k < length pairs.now }
-    requires capped { Small limit }
-    requires below { reached limit (pair_of black pairs.now) ≡ false }
-    requires small { AllSmall pairs.now }
-    ensures is { result ≡ limits_of black limit pairs.now }
-    ensures capped { Small result }
-{
-    let lim = facing(black, limit);
-    let own = facing(black, pairs[k]);
-    let pn = own_limit(lim.pn, second_of(black, pairs, k));
-    let dn = other_limit(lim.dn, total_of(black, pairs), own.dn);
-    facing(black, Pair { pn, dn })
+// The pairs of a line's moves, and whether Black is on turn there.
+#[derive(Clone, Copy)]
+pub(crate) struct Row<'a> {
+    pub(crate) black: bool,
+    pub(crate) pairs: &'a [Pair],
 }
 
-// What is said of a line that is left.
-pub(crate) fn finding_of(black: bool, independent: bool, pairs: &[Pair]) -> Finding
-    requires { length pairs.now ≤ 64 }
-    ensures { result ≡ finding_of black independent pairs.now }
-{
-    let pair = line_pair(black, pairs);
-    let won = place_of(black, 0, pairs) as u8;
-    if pair.pn == 0 {
-        return Finding::Verdict {
-            yes: true,
-            independent,
-            best: if black { won } else { 255 },
-        };
+impl Row<'_> {
+    fn least(&self) -> u32
+        ensures { result ≡ least (mine self.now.black self.now.pairs.now) }
+    {
+        self.pairs
+            .iter()
+            .rev()
+            .fold(INF, |n, p| facing(self.black, *p).pn.min(n))
     }
-    if pair.dn == 0 {
-        return Finding::Verdict {
-            yes: false,
-            independent,
-            best: if black { 255 } else { won },
-        };
+
+    fn total(&self) -> u32
+        ensures { result ≡ sum (theirs self.now.black self.now.pairs.now) }
+    {
+        self.pairs
+            .iter()
+            .rev()
+            .fold(0, |n, p| add(facing(self.black, *p).dn, n))
     }
-    Finding::Open {
-        pn: pair.pn,
-        dn: pair.dn,
+
+    // The first move with this number.
+    fn position_of(&self, x: u32) -> Option<usize>
+        ensures { result ≡ position (λ p. (seen self.now.black p).pn == x) self.now.pairs.now }
+    {
+        self.pairs
+            .iter()
+            .position(|p| facing(self.black, *p).pn == x)
+    }
+
+    // The same, or the number of moves.
+    fn place_of(&self, x: u32) -> usize
+        ensures is { result ≡ first x (mine self.now.black self.now.pairs.now) }
+        ensures within { result ≤ length self.now.pairs.now }
+    {
+        self.position_of(x).unwrap_or(self.pairs.len())
+    }
+
+    // The pair of a line from those of its moves.
+    pub(crate) fn pair(&self) -> Pair
+        ensures { result ≡ pair_of self.now.black self.now.pairs.now }
+    {
+        facing(
+            self.black,
+            Pair {
+                pn: self.least(),
+                dn: self.total(),
+            },
+        )
+    }
+
+    // The move to expand next: the first with the least number.
+    pub(crate) fn choice(&self, limit: Pair) -> usize
+        requires capped { Small limit }
+        requires below { reached limit (pair_of self.now.black self.now.pairs.now) ≡ false }
+        ensures is { result ≡ choice_of self.now.black self.now.pairs.now }
+        ensures within { result < length self.now.pairs.now }
+    {
+        self.place_of(self.least())
+    }
+
+    // The least number among the other moves.
+    fn second(&self, k: usize) -> u32
+        requires { k < length self.now.pairs.now }
+        ensures { result ≡ least (others k (mine self.now.black self.now.pairs.now)) }
+    {
+        let before = Row {
+            black: self.black,
+            pairs: &self.pairs[..k],
+        };
+        let after = Row {
+            black: self.black,
+            pairs: &self.pairs[k + 1..],
+        };
+        before.least().min(after.least())
+    }
+
+    // The limits under which that move, at k, is expanded.
+    pub(crate) fn limits(&self, limit: Pair, k: usize) -> Pair
+        requires chosen { k ≡ choice_of self.now.black self.now.pairs.now }
+        requires within { k < length self.now.pairs.now }
+        requires capped { Small limit }
+        requires below { reached limit (pair_of self.now.black self.now.pairs.now) ≡ false }
+        requires small { AllSmall self.now.pairs.now }
+        ensures is { result ≡ limits_of self.now.black limit self.now.pairs.now }
+        ensures capped { Small result }
+    {
+        let lim = facing(self.black, limit);
+        let own = facing(self.black, self.pairs[k]);
+        let pn = own_limit(lim.pn, self.second(k));
+        let dn = other_limit(lim.dn, self.total(), own.dn);
+        facing(self.black, Pair { pn, dn })
+    }
+
+    // What is said of a line that is left.
+    pub(crate) fn finding(&self, independent: bool) -> Finding
+        requires { length self.now.pairs.now ≤ 64 }
+        ensures { result ≡ finding_of self.now.black independent self.now.pairs.now }
+    {
+        let pair = self.pair();
+        let won = self.place_of(0) as u8;
+        if pair.pn == 0 {
+            return Finding::Verdict {
+                yes: true,
+                independent,
+                best: if self.black { won } else { 255 },
+            };
+        }
+        if pair.dn == 0 {
+            return Finding::Verdict {
+                yes: false,
+                independent,
+                best: if self.black { 255 } else { won },
+            };
+        }
+        Finding::Open {
+            pn: pair.pn,
+            dn: pair.dn,
+        }
     }
 }

@@ -1,27 +1,17 @@
 // Simulation: does a verdict that was found by another path hold here as well?
-ghost use Rattle.std.specs.Prelude.{◌≡◌, ℕ, ◌<◌, ◌≤◌, ◌∷◌, None, nat_le};
-ghost use Rattle.std.specs.Bool.{beq};
-ghost use Rattle.game.specs.Kinds.{points};
-ghost use Rattle.search_method.specs.Search.{played, every, holds_at, simulate as simulated, moves_left};
-ghost use Rattle.game.specs.Kept.{Kept};
+ghost use Rattle.std.specs.Prelude.{◌≡◌, ℕ, ◌<◌, None};
 ghost use Rattle.search.specs.Does.{Does};
-ghost use Rattle.search.specs.Steps.{step_of, onward};
+ghost use Rattle.search.specs.Parts.{after, simulation, holding, all_holding};
+ghost use Rattle.search.specs.Steps.{step_of};
 
-use crate::budget::Budget;
-use crate::line::{advance, black_moves, key_of};
+use crate::searcher::Searcher;
 use game::interface::Bounded;
-use game::kinds::Score;
+use search_method::claim::Claim;
 use store::entry::{Entry, Finding};
 use store::interface::Store;
 
-// The verdict that a simulation tries to confirm: is the value at least the floor?
-#[derive(Clone, Copy)]
-pub(crate) struct Claim {
-    pub(crate) floor: u8,
-    pub(crate) yes: bool,
-}
-
-// What a simulation does at a line that is not over: it stops, or goes on with one move, or with all.
+// What a simulation does at a line that is not over: it stops, or goes on with one move, or with all. To decide it apart
+// from doing it keeps each of the two short.
 #[derive(Clone, Copy)]
 pub(crate) enum Step {
     Stop(bool),
@@ -29,130 +19,101 @@ pub(crate) enum Step {
     All(u32),
 }
 
-// Does a score confirm the claim?
-fn confirms(score: Score, claim: Claim) -> bool
-    ensures { result ≡ beq (nat_le claim.floor (points score)) claim.yes }
-{
-    (score.points() >= claim.floor) == claim.yes
-}
-
-// What to do at a line that is not over, by what is known of it.
-fn choose(black: bool, moves: u32, independent: bool, yes: bool, found: Option<Entry>) -> Step
-    ensures { result ≡ step_of black moves independent yes found }
-{
-    let claims = yes == black;
-    if let Some(
-        Entry {
-            finding: Finding::Verdict {
-                yes: said,
-                independent: mark,
-                best,
-            },
-            ..
-        },
-    ) = found
+impl<G: Bounded, S: Store> Searcher<'_, G, S> {
+    // The claim of the verdict, for the floor that is asked for.
+    fn claim(&self, yes: bool) -> Claim
+        ensures { result ≡ record { floor = self.now.floor; yes = yes } }
     {
-        if mark && independent {
-            return Step::Stop(said == yes);
-        }
-        if claims && said == yes && (best as u32) < moves {
-            return Step::One(best as u32);
+        Claim {
+            floor: self.floor,
+            yes,
         }
     }
-    if claims {
-        Step::Stop(false)
-    } else {
-        Step::All(moves)
-    }
-}
 
-// Does the claim hold at the game's line? By its score, or by what the store shows. None where no play is left.
-#[cycle(holds_now_simulate_try_all_try_move)]
-fn holds_now<G: Bounded, S: Store>(
-    game: &mut G,
-    store: &S,
-    claim: Claim,
-    plays: &mut Budget,
-) -> Option<bool>
-    ensures does { Does S.Store.store (holds_at (G.Game.means game.old) claim.floor (simulated (G.Game.means game.old) claim.floor (moves_left (G.Game.means game.old) (G.Game.line game.old)) (G.Game.line game.old) claim.yes) (G.Game.line game.old) claim.yes) store.now store.now plays.old.left result plays.new.left }
-    ensures less { plays.new.left ≤ plays.old.left }
-    ensures kept { Kept G.Game.means G.Game.line game.old game.new }
-{
-    if let Some(score) = game.score() {
-        return Some(confirms(score, claim));
-    }
-    let found = store.probe(key_of(game, claim.floor));
-    simulate(game, store, claim, found, plays)
-}
-
-// The same at a line that is not over, with what is known of it in hand.
-// It plays and takes back, so that the line is as before on every way out.
-#[cycle(holds_now_simulate_try_all_try_move)]
-pub(crate) fn simulate<G: Bounded, S: Store>(
-    game: &mut G,
-    store: &S,
-    claim: Claim,
-    found: Option<Entry>,
-    plays: &mut Budget,
-) -> Option<bool>
-    requires going { ((G.Game.means game.old).view (G.Game.line game.old)).score ≡ None }
-    ensures does { Does S.Store.store (simulated (G.Game.means game.old) claim.floor (moves_left (G.Game.means game.old) (G.Game.line game.old)) (G.Game.line game.old) claim.yes found) store.now store.now plays.old.left result plays.new.left }
-    ensures less { plays.new.left ≤ plays.old.left }
-    ensures kept { Kept G.Game.means G.Game.line game.old game.new }
-{
-    match choose(
-        black_moves(game),
-        game.moves(),
-        game.independent(),
-        claim.yes,
-        found,
-    ) {
-        Step::Stop(held) => Some(held),
-        Step::One(k) => try_move(game, store, claim, k, plays),
-        Step::All(n) => try_all(game, store, claim, n, plays),
-    }
-}
-
-// One move is played, simulated and taken back.
-#[cycle(holds_now_simulate_try_all_try_move)]
-fn try_move<G: Bounded, S: Store>(
-    game: &mut G,
-    store: &S,
-    claim: Claim,
-    k: u32,
-    plays: &mut Budget,
-) -> Option<bool>
-    requires legal { k < ((G.Game.means game.old).view (G.Game.line game.old)).moves }
-    ensures does { Does S.Store.store (played (onward (G.Game.means game.old) claim.floor claim.yes (G.Game.line game.old) (k ∷ G.Game.line game.old))) store.now store.now plays.old.left result plays.new.left }
-    ensures less { plays.new.left ≤ plays.old.left }
-    ensures kept { Kept G.Game.means G.Game.line game.old game.new }
-{
-    plays.spend()?;
-    advance(game, k);
-    let held = holds_now(game, store, claim, plays);
-    let _ = game.take_back();
-    held
-}
-
-// Every move in order, until one does not hold.
-#[cycle(holds_now_simulate_try_all_try_move)]
-fn try_all<G: Bounded, S: Store>(
-    game: &mut G,
-    store: &S,
-    claim: Claim,
-    moves: u32,
-    plays: &mut Budget,
-) -> Option<bool>
-    requires all { moves ≡ ((G.Game.means game.old).view (G.Game.line game.old)).moves }
-    ensures does { Does S.Store.store (every (λ k. onward (G.Game.means game.old) claim.floor claim.yes (G.Game.line game.old) (k ∷ G.Game.line game.old)) 0 moves) store.now store.now plays.old.left result plays.new.left }
-    ensures less { plays.new.left ≤ plays.old.left }
-    ensures kept { Kept G.Game.means G.Game.line game.old game.new }
-{
-    for k in 0..moves {
-        let held = try_move(game, store, claim, k, plays)?;
-        if !held {
-            return Some(false);
+    // What to do at a line that is not over, by what is known of it.
+    fn step(&self, yes: bool, found: Option<Entry>) -> Step
+        ensures { result ≡ step_of ((G.Game.means self.now.game.now).view (G.Game.line self.now.game.now)) yes found }
+    {
+        let claims = self.claim(yes).claims(self.game.turn());
+        if let Some(
+            Entry {
+                finding: Finding::Verdict {
+                    yes: said,
+                    independent,
+                    best,
+                },
+                ..
+            },
+        ) = found
+        {
+            if independent && self.game.independent() {
+                return Step::Stop(said == yes);
+            }
+            if claims && said == yes && (best as u32) < self.game.moves() {
+                return Step::One(best as u32);
+            }
+        }
+        if claims {
+            Step::Stop(false)
+        } else {
+            Step::All(self.game.moves())
         }
     }
-    Some(true)
+
+    // Does the verdict hold at the game's line? By its score, or by what the store shows. None where no play is left.
+    #[cycle(simulation)]
+    fn holds_now(&mut self, yes: bool) -> Option<bool>
+        ensures does { Does G.Game.means G.Game.line S.Store.store (holding yes) self.old result self.new }
+        ensures reads { self.new.store.now ≡ self.old.store.now }
+    {
+        if let Some(score) = self.game.score() {
+            return Some(self.claim(yes).given_by(score));
+        }
+        let key = self.key();
+        let found = self.store.probe(key);
+        self.simulate(yes, found)
+    }
+
+    // The same at a line that is not over, with the entry that the store shows. The game comes back to its line on every
+    // way out.
+    #[cycle(simulation)]
+    pub(crate) fn simulate(&mut self, yes: bool, found: Option<Entry>) -> Option<bool>
+        requires going { ((G.Game.means self.old.game.now).view (G.Game.line self.old.game.now)).score ≡ None }
+        ensures does { Does G.Game.means G.Game.line S.Store.store (simulation yes found) self.old result self.new }
+        ensures reads { self.new.store.now ≡ self.old.store.now }
+    {
+        match self.step(yes, found) {
+            Step::Stop(held) => Some(held),
+            Step::One(k) => self.try_move(yes, k),
+            Step::All(n) => self.try_all(yes, n),
+        }
+    }
+
+    // One move is played, simulated and taken back.
+    #[cycle(simulation)]
+    fn try_move(&mut self, yes: bool, k: u32) -> Option<bool>
+        requires legal { k < ((G.Game.means self.old.game.now).view (G.Game.line self.old.game.now)).moves }
+        ensures does { Does G.Game.means G.Game.line S.Store.store (after k (holding yes)) self.old result self.new }
+        ensures reads { self.new.store.now ≡ self.old.store.now }
+    {
+        self.play(k)?;
+        let held = self.holds_now(yes);
+        self.take_back();
+        held
+    }
+
+    // Every move in order, until one does not hold.
+    #[cycle(simulation)]
+    fn try_all(&mut self, yes: bool, moves: u32) -> Option<bool>
+        requires all { moves ≡ ((G.Game.means self.old.game.now).view (G.Game.line self.old.game.now)).moves }
+        ensures does { Does G.Game.means G.Game.line S.Store.store (all_holding yes 0 moves) self.old result self.new }
+        ensures reads { self.new.store.now ≡ self.old.store.now }
+    {
+        for k in 0..moves {
+            if !self.try_move(yes, k)? {
+                return Some(false);
+            }
+        }
+        Some(true)
+    }
 }

@@ -9,10 +9,9 @@ ghost use Rattle.game.specs.Kept.{Kept};
 ghost use Rattle.search.specs.Does.{came};
 ghost use Rattle.search.specs.Solve.{Answers, Within, Admitted, count_of};
 
-use crate::budget::Budget;
-use crate::expansion::expand;
 use crate::memory::SearchMemory;
 use crate::pairs::INF;
+use crate::searcher::Searcher;
 use game::interface::Bounded;
 use search_method::kinds::{Answer, Pair, SolveRefusal, Worked};
 use store::entry::Finding;
@@ -69,18 +68,15 @@ fn run<G: Bounded, S: Store>(
             count: 0,
         };
     }
-    let mut plays = Budget { left: budget };
     let limit = Pair { pn: INF, dn: INF };
-    let found = expand(
+    let mut searcher = Searcher {
         game,
         store,
         floor,
-        limit,
-        memory.lines,
-        memory.moves,
-        &mut plays,
-    );
-    answer_of(budget, plays.left, found)
+        left: budget,
+    };
+    let found = searcher.expand(limit, memory.lines, memory.moves);
+    answer_of(budget, searcher.left, found)
 }
 
 // Is the value of the game's line at least the floor? The answer is that of the search's definition, whatever stood in

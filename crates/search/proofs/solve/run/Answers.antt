@@ -1,8 +1,8 @@
-use Rattle.std.proofs.Common.{sym}
+use Rattle.std.proofs.Common.{sym, refl, rules}
 use Rattle.search.proofs.Expanding.{solve_expands}
 use Rattle.search.proofs.solve.run.Goals as goal
 
 pub returns-clause-runs : goal.returns-clause-runs
 returns-clause-runs g c =
-    solve_expands g.S.Store.store c.args.store.now c.expand-found.new.store (g.G.Game.means c.args.game.now) (g.G.Game.line c.args.game.now) c.args.floor c.args.budget
-    c.expand-found.result c.expand-found.new.plays.left c.answer_of.result (sym c.in_default.ensures) c.expand-found.ensures.does c.answer_of.ensures.is
+    solve_expands g.G.Game.means g.G.Game.line g.S.Store.store c.args.budget c.expand-found.result _ c.expand-found.new.self c.answer_of.result (sym c.in_default.ensures) refl c.expand-found.ensures c.answer_of.ensures.is _
+    (search rules)
