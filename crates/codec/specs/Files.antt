@@ -1,17 +1,7 @@
 -- Numbers at a place of a row of bytes: what reading answers, and what putting leaves.
-use Rattle.std.specs.Prelude.{ℕ, ◌+◌, ◌-◌, ◌*◌, cond, List, ◌++◌, length, take, drop, Some, None, Option, ◌==◌, nat_le}
+use Rattle.std.specs.Prelude.{ℕ, ◌+◌, ◌-◌, cond, List, ◌++◌, length, take, drop, Some, None, Option, nat_le}
 use Rattle.codec.specs.Numbers.{Read, number, refused, read}
 use Rattle.codec.specs.declared.Number.{Number}
-use Rattle.codec.specs.declared.Spelled.{Spelled}
-
--- a number of up to 35 bits and the place after it, in `whole` bytes
-abbrev pub spelled_out : ℕ → Read → Option Spelled
-spelled_out whole refused = None
-spelled_out whole (number n rest) = Some (record { value = n; end = whole - length rest })
-
--- a byte that more follow, with what they spell
-abbrev pub joined_to : ℕ → Spelled → Option Spelled
-joined_to b s = cond (s.value == 0) None (Some (record { value = b - 128 + 128 * s.value; end = s.end }))
 
 -- a number and the place after it, in `whole` bytes
 abbrev pub placed : ℕ → Read → Option Number

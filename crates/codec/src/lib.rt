@@ -5,9 +5,11 @@
 // `put_number` puts one there if it fits, and else writes nothing. `numbers_are_faithful` says that the two agree.
 #![tactic(auto)]
 
-ghost use Rattle.std.specs.Prelude.{◌≡◌, ◌*◌, ◌^◌, ◌<◌, ◌≤◌, length, drop, MatchOption};
-ghost use Rattle.codec.specs.Files.{joined_to, number_at, spelled_out, end_after, with_bytes};
-ghost use Rattle.codec.specs.Numbers.{Faithful, encode, shortest, digits as digits_of};
+ghost use Rattle.std.specs.Prelude.{◌≡◌, ◌<◌, length, IfSome, MatchOption};
+ghost use Rattle.codec.specs.Files.{number_at, end_after, with_bytes};
+ghost use Rattle.codec.specs.Numbers.{Faithful, encode, number, refused, read_in};
+
+use arrayvec::ArrayVec;
 
 // A number and the place after it.
 #[derive(Clone, Copy, PartialEq, Eq, Debug)]
@@ -16,86 +18,64 @@ pub struct Number {
     pub end: usize,
 }
 
-// A number of up to 35 bits and the place after it.
-#[derive(Clone, Copy)]
-struct Spelled {
-    value: u64,
-    end: usize,
-}
-
-// A byte that more follow, with the number that they spell: none if that is 0, as the form was not the shortest.
-fn joined(byte: u8, above: Spelled) -> Option<Spelled>
-    requires { (128 ≤ byte) × (above.value < 2 ^ 35) }
-    ensures { result ≡ joined_to byte above }
+// The number of at most `most` bytes at the front, and the bytes after it.
+#[tactic(auto, using(crate::proofs::Spelling::reading))]
+fn read_front(bytes: &[u8], most: u32) -> Option<(u32, &[u8])>
+    ensures is { MatchOption result (read_in most bytes.now ≡ refused) (λ x. read_in most bytes.now ≡ number x.0 x.1.now) }
+    ensures shorter { IfSome result (λ x. length x.1.now < length bytes.now) }
 {
-    if above.value == 0 {
+    let more = most.checked_sub(1)?;
+    let (byte, rest) = bytes.split_first()?;
+    let low = u32::from(*byte % 128);
+    if *byte < 128 {
+        return Some((low, rest));
+    }
+    let (above, rest) = read_front(rest, more)?;
+    // Where what follows is 0, the form was not the shortest.
+    if above == 0 {
         return None;
     }
-    Some(Spelled {
-        value: (byte as u64 - 128) + 128 * above.value,
-        end: above.end,
-    })
-}
-
-// The number of at most `most` bytes at a place, whatever its size.
-fn digits(bytes: &[u8], at: usize, most: u32) -> Option<Spelled>
-    requires { most ≤ 5 }
-    ensures is { result ≡ spelled_out (length bytes.now) (digits_of most (drop at bytes.now)) }
-    ensures small { MatchOption result (0 ≤ 1) (λ x. x.value < 2 ^ (7 * most)) }
-{
-    if most == 0 || at >= bytes.len() {
-        return None;
-    }
-    let byte = bytes[at];
-    if byte < 128 {
-        return Some(Spelled {
-            value: byte as u64,
-            end: at + 1,
-        });
-    }
-    let above = digits(bytes, at + 1, most - 1)?;
-    joined(byte, above)
+    Some((above.checked_mul(128)?.checked_add(low)?, rest))
 }
 
 // The number at a place; none where it is cut off, over five bytes, past 32 bits or not in its shortest form.
+#[tactic(auto, using(crate::proofs::Spelling::reading))]
 pub fn read_number(bytes: &[u8], at: usize) -> Option<Number>
     ensures { result ≡ number_at bytes.now at }
 {
-    let number = digits(bytes, at, 5)?;
-    if number.value < 0x1_0000_0000 {
-        Some(Number {
-            value: number.value as u32,
-            end: number.end,
-        })
-    } else {
-        None
-    }
+    let (value, rest) = read_front(bytes.get(at..)?, 5)?;
+    Some(Number {
+        value,
+        end: bytes.len() - rest.len(),
+    })
 }
 
-// Puts a number's form of at most `most` bytes at a place, the last byte first, so that nothing is written where it does not fit.
-fn put(bytes: &mut [u8], at: usize, n: u32, most: u32) -> Option<usize>
-    requires { (1 ≤ most) × (n < 2 ^ (7 * most)) }
-    ensures end { result ≡ end_after bytes.old at (shortest most n) }
-    ensures bytes { bytes.new ≡ with_bytes bytes.old at (shortest most n) }
+// The form of a number.
+fn form(n: u32) -> ArrayVec<u8, 5>
+    ensures { result.items ≡ encode n }
 {
-    if at >= bytes.len() {
-        return None;
+    let mut form = ArrayVec::new();
+    let mut left = n;
+    while left >= 128 {
+        form.push((left % 128 + 128) as u8);
+        left /= 128;
     }
-    if n < 128 {
-        bytes[at] = n as u8;
-        return Some(at + 1);
-    }
-    let end = put(bytes, at + 1, n / 128, most - 1)?;
-    bytes[at] = (n % 128 + 128) as u8;
-    Some(end)
+    form.push(left as u8);
+    form
 }
 
 // Puts a number at a place and answers the place after it; none, and nothing is written, where it does not fit.
+#[tactic(auto, using(std::proofs::lemmas::Bool::Decides::nat_tests))]
 pub fn put_number(bytes: &mut [u8], at: usize, n: u32) -> Option<usize>
     ensures end { result ≡ end_after bytes.old at (encode n) }
     ensures bytes { bytes.new ≡ with_bytes bytes.old at (encode n) }
 {
-    put(bytes, at, n, 5)
+    let form = form(n);
+    let end = at
+        .checked_add(form.len())
+        .filter(|end| *end <= bytes.len())?;
+    bytes[at..end].copy_from_slice(&form);
+    Some(end)
 }
 
 // The form of a number is unique, and reading gives the number back.

@@ -6,6 +6,7 @@ use store::entry::{Entry, Key};
 use store::interface::Store;
 
 // A store, the number of entries recorded in it and how often it was cleared, each to the top of 64 bits and no further.
+#[derive(Drop)]
 pub struct Counting<S> {
     pub below: S,
     pub recorded: u64,
