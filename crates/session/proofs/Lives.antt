@@ -8,7 +8,7 @@ use Rattle.life.specs.Life.{Memory, Event, Step, Life}
 use Rattle.session.specs.declared.request.Request.{Request}
 use Rattle.session.specs.declared.request.Reply.{Reply}
 use Rattle.session.specs.declared.request.Exchange.{Exchange}
-use Rattle.session.specs.Requests.{Desk, call_of, answer_of, Leaves, Tells, asked}
+use Rattle.session.specs.Requests.{Desk, desk, call_of, answer_of, Leaves, Tells, asked}
 use Rattle.session.specs.Runs.{Lived}
 
 -- the exchange with this reply
@@ -40,3 +40,10 @@ lived_next m n 𝓢 start given w v d b c xs i q r l k s t within same_game same
 
     step_here : Step m 𝓢 l s (call_of w b q) (answer_of c.bytes r) k t
     step_here = subst₂ (λ (x : Meaning) (u : Memory). Step x 𝓢 l s (call_of u b q) (answer_of c.bytes r) k t) same_game same_memory step
+
+-- a life with the memory and the last buffer written in another way
+pub ran_over : {S : Type 0} {m : Meaning} {𝓢 : StoreMeaning S} {start : Line} {given : S} {w v : Memory} {d : Desk} {xs : List Exchange} {l : Line}
+    {s : S} {b c : List ℕ} {n : ℕ} → c ≡ b → v ≡ w → Lived m 𝓢 start given v d xs l s (desk b n) → Lived m 𝓢 start given w d xs l s (desk c n)
+ran_over bytes memory lived = rw (bytes, ← memory) lived
+
+pub ruleset lives = (asked_next, lived_opened, lived_next)

@@ -10,7 +10,8 @@ use game::interface::Bounded;
 use search::memory::SearchMemory;
 use store::interface::Store;
 
-// Opens a session and makes the requests in order.
+// Opens a session and makes the requests in order; each reply is put beside its request.
+#[tactic(auto, using(crate::proofs::Lives::lives))]
 pub(crate) fn live<G: Bounded, S: Store>(
     game: G,
     store: S,

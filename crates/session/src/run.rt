@@ -13,8 +13,10 @@ use search::memory::SearchMemory;
 use store::interface::Store;
 
 // Opens two sessions over any two bounded games and any two stores, and makes a list of requests in the first and then
-// another in the second, with one buffer and one work memory; each reply is put beside its request. From reachable lines
-// each list is a life of which requests and replies tell all that happened, and any two such lives keep the promise.
+// another in the second, with one buffer and one work memory. Each reply is put beside its request, in place of what stood
+// there. From reachable lines each list is a life of which it tells all that happened, and any two such lives keep the
+// promise. A session's game, store and list stay three parameters: of a struct that holds them a contract could tell the
+// replies only by the places of its fields.
 pub fn in_two_sessions<G: Bounded, S: Store, K: Bounded, R: Store>(
     game: G,
     store: S,

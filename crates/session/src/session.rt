@@ -1,5 +1,6 @@
 // A session holds a game and a store. Opening it clears the store; every call is that of the part that it is about.
 ghost use Rattle.std.specs.Prelude.{◌≡◌, length};
+ghost use Rattle.game.specs.Kept.{Kept};
 ghost use Rattle.game.specs.Refusals.{refused_by, play_answer, played_line, back_answer, shorter};
 ghost use Rattle.search_method.specs.Refusals.{refusal_due};
 ghost use Rattle.search_method.specs.Search.{solve as solving};
@@ -9,6 +10,7 @@ ghost use Rattle.proof_method.specs.Check.{check_in};
 ghost use Rattle.proof_method.specs.Write.{write_in, buffer};
 ghost use Rattle.proof_writer.specs.Writing.{written_by, Fits};
 ghost use Rattle.proof_file.specs.Faults.{checked_by};
+ghost use Rattle.session.specs.Requests.{room_of};
 
 use game::interface::Bounded;
 use game::refusal::Refusal;
@@ -82,10 +84,8 @@ impl<G: Bounded, S: Store> Session<G, S> {
     ) -> Result<Answer, SolveRefusal>
         ensures answers { Answers S.Store.store (solving (G.Game.means self.old.game) (G.Game.line self.old.game) floor budget) (refusal_due floor (length memory.old.lines.now) (length memory.old.moves.now)) self.old.store self.new.store result }
         ensures within { Within budget result }
-        ensures lines { length memory.new.lines.now ≡ length memory.old.lines.now }
-        ensures moves { length memory.new.moves.now ≡ length memory.old.moves.now }
-        ensures same { G.Game.means self.new.game ≡ G.Game.means self.old.game }
-        ensures back { G.Game.line self.new.game ≡ G.Game.line self.old.game }
+        ensures room { room_of memory.new ≡ room_of memory.old }
+        ensures kept { Kept G.Game.means G.Game.line self.old.game self.new.game }
     {
         solve(&mut self.game, &mut self.store, floor, budget, memory)
     }
@@ -101,10 +101,8 @@ impl<G: Bounded, S: Store> Session<G, S> {
         ensures is { Runs S.Store.store (write_in (length memory.old.lines.now) (length memory.old.moves.now) (G.Game.means self.old.game) (G.Game.line self.old.game) floor budget (length out.old)) self.old.store self.new.store (written_by out.new result) }
         ensures buffer { out.new ≡ buffer out.old (written_by out.new result) }
         ensures fits { Fits out.new result }
-        ensures lines { length memory.new.lines.now ≡ length memory.old.lines.now }
-        ensures moves { length memory.new.moves.now ≡ length memory.old.moves.now }
-        ensures same { G.Game.means self.new.game ≡ G.Game.means self.old.game }
-        ensures back { G.Game.line self.new.game ≡ G.Game.line self.old.game }
+        ensures room { room_of memory.new ≡ room_of memory.old }
+        ensures kept { Kept G.Game.means G.Game.line self.old.game self.new.game }
     {
         write(&mut self.game, &mut self.store, floor, budget, memory, out)
     }
@@ -117,8 +115,7 @@ impl<G: Bounded, S: Store> Session<G, S> {
         memory: &mut SearchMemory<'_>,
     ) -> Result<CheckedProof, Fault>
         ensures is { checked_by result ≡ check_in (length memory.old.lines.now) (length memory.old.moves.now) (G.Game.means self.old.game) (G.Game.line self.old.game) proof.now budget }
-        ensures same { G.Game.means self.new.game ≡ G.Game.means self.old.game }
-        ensures back { G.Game.line self.new.game ≡ G.Game.line self.old.game }
+        ensures kept { Kept G.Game.means G.Game.line self.old.game self.new.game }
         ensures store { self.new.store ≡ self.old.store }
         ensures lines { memory.new.lines.now ≡ memory.old.lines.now }
         ensures moves { memory.new.moves.now ≡ memory.old.moves.now }

@@ -9,7 +9,8 @@ use game::interface::Bounded;
 use search::memory::SearchMemory;
 use store::interface::Store;
 
-// The buffer that is lent to all calls, and how many of its first bytes the last write put there.
+// The buffer that is lent to all calls, and how many of its first bytes the last write put there. Work memory is lent beside
+// it: no proof was found for a write that lends both out of one struct.
 #[derive(Drop)]
 pub(crate) struct Desk<'a> {
     pub(crate) bytes: &'a mut [u8],
@@ -33,7 +34,8 @@ impl Desk<'_> {
 }
 
 impl<G: Bounded, S: Store> Session<G, S> {
-    // Makes one request.
+    // Makes one request: the reply is what its call answers.
+    #[tactic(auto, using(crate::proofs::Steps::steps))]
     pub(crate) fn make(
         &mut self,
         request: Request,
@@ -53,7 +55,7 @@ impl<G: Bounded, S: Store> Session<G, S> {
                 self.clear();
                 Reply::Cleared
             }
-            Request::Solve { floor, budget } => { Reply::Solved(self.solve(floor, budget, memory)) }
+            Request::Solve { floor, budget } => Reply::Solved(self.solve(floor, budget, memory)),
             Request::Write { floor, budget } => {
                 let written = self.write(floor, budget, memory, desk.bytes);
                 desk.written = written.map_or(0, |proof| proof.length);
