@@ -1,6 +1,8 @@
 -- What the answers of check mean, and what each part of its walk answers.
-use Rattle.std.specs.Prelude.{◌≡◌, ℕ, suc, ◌<◌, ◌≤◌, Bool, List, ◌∷◌, length, drop, Ok, Err, Result, nat_lt}
+use Rattle.std.specs.Prelude.{◌≡◌, ℕ, suc, ◌<◌, ◌≤◌, Bool, cond, ◌||◌, List, ◌∷◌, length, drop, Some, None, Ok, Err, Option, Result, nat_lt}
+use Rattle.codec.specs.declared.Number.{Number}
 use Rattle.game.specs.Meaning.{Line, Meaning}
+use Rattle.game.specs.declared.refusal.Refusal.{Refusal}
 use Rattle.game.specs.Refusals.{refusal_number}
 use Rattle.proof_method.specs.Check.{Checked, accepted, faulty, Fault, Walked, through, stopped, Step, choose, fault, played, each, walk}
 use Rattle.proof_file.specs.declared.fault.Reason.{Reason}
@@ -30,6 +32,16 @@ carried_by (Refused r) = refusal_number r
 carried_by Denied = 0
 carried_by BytesLeft = 0
 
+-- the game's own refusal
+abbrev pub refusal_in : Reason → Option Refusal
+refusal_in Memory = None
+refusal_in OutOfBudget = None
+refusal_in NotANumber = None
+refusal_in NotAClaim = None
+refusal_in (Refused r) = Some r
+refusal_in Denied = None
+refusal_in BytesLeft = None
+
 -- a fault by its numbers
 abbrev pub fault_of : CodeFault → Fault
 fault_of f = record { number = reason_number f.reason; place = f.place; depth = f.depth; carried = carried_by f.reason }
@@ -48,6 +60,12 @@ proof_of c = record { floor = c.floor; yes = c.yes; size = c.length; plays = c.p
 abbrev pub checked_by : Result CheckedProof CodeFault → Checked
 checked_by (Ok c) = accepted c.floor c.yes c.length c.plays
 checked_by (Err f) = faulty (fault_of f)
+
+-- one of the two numbers of the claim, as it is read at a place: 9 where there is none, 10 where it is not from low to high
+abbrev pub claim_number : ℕ → ℕ → ℕ → Option Number → Result Number CodeFault
+claim_number at low high None = Err (record { reason = NotANumber; place = at; depth = 0 })
+claim_number at low high (Some x) =
+    cond (nat_lt x.value low || nat_lt high x.value) (Err (record { reason = NotAClaim; place = at; depth = 0 })) (Ok x)
 
 -- a part of the walk by the bytes not yet read and the plays left, or by its fault
 abbrev pub walked_by : List ℕ → Result State CodeFault → Walked

@@ -1,6 +1,6 @@
 // What is wrong with a proof file. docs/REFUSALS.md has every number.
 ghost use Rattle.std.specs.Prelude.{◌≡◌};
-ghost use Rattle.proof_file.specs.Faults.{fault_of};
+ghost use Rattle.proof_file.specs.Faults.{fault_of, refusal_in};
 
 use game::refusal::Refusal;
 
@@ -40,13 +40,20 @@ impl Fault {
         }
     }
 
+    // The game's own refusal of a written move.
+    pub fn refusal(self) -> Option<Refusal>
+        ensures { result ≡ refusal_in self.reason }
+    {
+        match self.reason {
+            Reason::Refused(refusal) => Some(refusal),
+            _ => None,
+        }
+    }
+
     // The number of the game's own refusal, or 0.
     pub fn carried(self) -> u8
         ensures { result ≡ (fault_of self).carried }
     {
-        match self.reason {
-            Reason::Refused(refusal) => refusal.number(),
-            _ => 0,
-        }
+        self.refusal().map_or(0, Refusal::number)
     }
 }

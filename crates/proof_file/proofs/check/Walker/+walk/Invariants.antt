@@ -1,7 +1,7 @@
 use Rattle.std.proofs.Common.{◌+◌, ◌*◌}
 use Rattle.game.specs.Kept.{Kept}
 use Rattle.proof_file.proofs.Walking.{Through}
-use Rattle.proof_file.proofs.check.+all_moves_descend_walk.Given as goal
+use Rattle.proof_file.proofs.check.Walker.+walk.Given as goal
 
 abbrev pub decreases-walk : goal.decreases-walk
 decreases-walk g l = 3 * l.state.left + 2
@@ -15,4 +15,4 @@ decreases-descend g l = 3 * l.state.left
 abbrev pub invariant-all_moves-loop-k : goal.invariant-all_moves-loop-k
 invariant-all_moves-loop-k g l =
     Kept g.G.Game.means g.G.Game.line l.initial.game l.game
-    × Through (g.G.Game.means l.initial.game) l.proof l.claim (g.G.Game.line l.initial.game) l.depth l.initial.state l.k l.state
+    × Through (g.G.Game.means l.initial.game) l.self.proof.now l.self.claim (g.G.Game.line l.initial.game) l.depth l.initial.state l.k l.state
