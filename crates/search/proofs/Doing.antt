@@ -12,7 +12,7 @@ use Rattle.search_method.specs.Search.{Out, exhausted, got, Part, give, next, �
 use Rattle.search_method.proofs.Runs.{runs_bind}
 use Rattle.search.specs.declared.searcher.Searcher.{Searcher}
 use Rattle.search.specs.Moves.{Holds, Played, Plays, TakesBack, Leaves}
-use Rattle.search.specs.Does.{came, At, Does}
+use Rattle.search.specs.Does.{came, At, Does, Reads}
 use Rattle.search.specs.Parts.{after}
 
 -- with a play left, what follows it is done with one less
@@ -88,3 +88,20 @@ module _ {G S : Type 0} {means : G → Meaning} {line : G → Line} where
           };
           runs = rw (p.counted, play_one, ← p.same, ← p.goes, ← p.holds.floor, ← p.reads, t.left, t.reads) h.runs;
         }
+
+    -- the same where the store is only read
+    pub reads_give : {A : Type 0} (x : A) (a : Searcher G S) → Reads means line 𝓢 (λ m floor l. give x) a (Some x) a
+    reads_give x a = record { does = does_give x a; same = refl }
+
+    pub reads_as : {A : Type 0} (x y : At A) {a b : Searcher G S} {r : Option A}
+        → x (means a.game.now) a.floor (line a.game.now) a.left ≡ y (means a.game.now) a.floor (line a.game.now) a.left
+        → Reads means line 𝓢 y a r b → Reads means line 𝓢 x a r b
+    reads_as x y e h = record { does = does_as x y e h.does; same = h.same }
+
+    pub reads_then : {A B : Type 0} (x : At A) (y : A → At B) {a b c : Searcher G S} {v : A} {r : Option B}
+        → Reads means line 𝓢 x a (Some v) b → Reads means line 𝓢 (y v) b r c → Reads means line 𝓢 (λ m floor l. x m floor l >>= (λ v. y v m floor l)) a r c
+    reads_then x y p q = record { does = does_then x y p.does q.does; same = q.same ∙ p.same }
+
+    pub reads_exhausted : {A B : Type 0} (x : At A) (y : A → At B) {a b : Searcher G S}
+        → Reads means line 𝓢 x a None b → Reads means line 𝓢 (λ m floor l. x m floor l >>= (λ v. y v m floor l)) a None b
+    reads_exhausted x y p = record { does = does_exhausted x y p.does; same = p.same }

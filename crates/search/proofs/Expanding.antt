@@ -1,6 +1,7 @@
 -- The expansion of a line: its turns so far, and how they end.
 use Rattle.std.proofs.Common.{◌≡◌, ℕ, zero, suc, ◌-◌, ◌<◌, ◌≤◌, Bool, true, false, cond, eqb, List, [], ◌∷◌, set, Some, None, Option, sym, refl, ap, ◌∙◌, subst, subst₂, arith}
 use mathlib.Core.Path.{subst₃}
+use Rattle.std.specs.List.{All}
 use Rattle.game.specs.declared.kinds.Score.{Score}
 use Rattle.game.specs.Meaning.{Line, Meaning}
 use Rattle.game.specs.Value.{black_moves}
@@ -18,10 +19,10 @@ use Rattle.search_method.specs.Search.{Out, exhausted, got, Part, ◌>>=◌, eit
 use Rattle.search_method.proofs.Runs.{runs_bind}
 use Rattle.search.specs.declared.memory.LineRecord.{LineRecord}
 use Rattle.search.specs.declared.searcher.Searcher.{Searcher}
-use Rattle.search.specs.Moves.{Played, TakesBack, Notes, Leaves}
+use Rattle.search.specs.Moves.{here, Played, TakesBack, Notes, Leaves}
 use Rattle.search.specs.Does.{came, At, Does}
 use Rattle.search.specs.Parts.{after, evaluating, expanding, turning}
-use Rattle.search.specs.Numbers.{mine, finding_of, AllSmall, Costs}
+use Rattle.search.specs.Numbers.{mine, finding_of, Small, Costs}
 use Rattle.search.specs.Lines.{record_of}
 use Rattle.search.proofs.Doing.{less_left, stays, leaves_then, does_as, does_then, does_exhausted}
 
@@ -189,10 +190,10 @@ module _ {G S : Type 0} (means : G → Meaning) (line : G → Line) (𝓢 : Stor
   pub record Turning (x : LineRecord) (ps : List Pair) (a : Searcher G S) (qs : List Pair) (b : Searcher G S) : Type 0 where
     pub leaves : Leaves means line a b
     pub told : Told x b
-    pub small : AllSmall qs
+    pub small : All Small qs
     pub rest : (r : Option Worked) (c : Searcher G S) → Settles x.limit qs b r c → Settles x.limit ps a r c
 
-  pub turning_none : (x : LineRecord) (ps : List Pair) (a : Searcher G S) → Told x a → AllSmall ps → Turning x ps a ps a
+  pub turning_none : (x : LineRecord) (ps : List Pair) (a : Searcher G S) → Told x a → All Small ps → Turning x ps a ps a
   turning_none x ps a told small = record { leaves = stays a; told = told; small = small; rest = λ r c h. h }
 
   -- no move may be left
@@ -226,7 +227,7 @@ module _ {G S : Type 0} (means : G → Meaning) (line : G → Line) (𝓢 : Stor
       (does_then evaluating (turns_of limit) evaluated (does_as (turns_of limit ps) (turning (suc b.left) limit ps) refl (settled (suc b.left) (omega arith))))
 
   -- a line that is not over is expanded without limits
-  pub solve_expands : (budget : ℕ) (found : Option Worked) (a b : Searcher G S) (r : Answer) → ((means a.game.now).view (line a.game.now)).score ≡ None → a.left ≡ budget
+  pub solve_expands : (budget : ℕ) (found : Option Worked) (a b : Searcher G S) (r : Answer) → (here means line a).score ≡ None → a.left ≡ budget
       → Expands no_limits a found b → r ≡ answer budget (came found b.left)
       → (t : S) → t ≡ b.store.now → Runs 𝓢 (solve (means a.game.now) (line a.game.now) a.floor budget) a.store.now t r
   solve_expands budget found a b r going all expands is t at_end =

@@ -33,10 +33,6 @@ finding_of black independent ps =
 abbrev pub Small : Pair → Type 0
 Small p = (p.pn ≤ INF) × (p.dn ≤ INF)
 
-abbrev pub AllSmall : List Pair → Type 0
-AllSmall [] = Unit {0}
-AllSmall (p ∷ ps) = Small p × AllSmall ps
-
 -- an answer has cost a play
 abbrev pub Costs : {A : Type 0} → Option A → ℕ → ℕ → Type 0
 Costs None before after = Unit {0}

@@ -1,8 +1,10 @@
 use Rattle.std.proofs.Common.{◌≡◌, None, sym, ap, ◌∙◌, arith, rules}
+use Rattle.std.specs.List.{All}
+use Rattle.std.proofs.lemmas.List.Elements.{All-set}
 use Rattle.search_method.specs.Search.{height_of, moves_left}
-use Rattle.search.specs.Numbers.{AllSmall}
+use Rattle.search.specs.Numbers.{Small}
 use Rattle.search.proofs.Doing.{leaves_then}
-use Rattle.search.proofs.Smalls.{evaluate_small, moved_small, all_small_set}
+use Rattle.search.proofs.Smalls.{evaluate_small, moved_small}
 use Rattle.search.proofs.Expanding.{told_kept, turn_leaves, turn_goes, turn_stops, expand_ends, expand_exhausted, expand_settled}
 use Rattle.search.proofs.searcher.Searcher.+expansion.Goals as goal
 
@@ -18,7 +20,7 @@ expand_line-returns-in_err-evaluate g t c =
 
 pub expand_line-take_turns-requires : goal.expand_line-take_turns-requires
 expand_line-take_turns-requires g t c κs within =
-    let small : AllSmall c.evaluate.new.pairs = evaluate_small g.G.Game.means g.G.Game.line g.S.Store.store c.evaluate.new.pairs c.args.self.now c.evaluate.new.self c.in_ok-evaluate.ensures.does in
+    let small : All Small c.evaluate.new.pairs = evaluate_small g.G.Game.means g.G.Game.line g.S.Store.store c.evaluate.new.pairs c.args.self.now c.evaluate.new.self c.in_ok-evaluate.ensures.does in
     let told = told_kept g.G.Game.means g.G.Game.line g.S.Store.store c.args.line.now c.args.self.now c.evaluate.new.self c.evaluate.ensures.does.leaves c.requires.told in
     search rules
 
@@ -44,8 +46,8 @@ take_turns-turns-preserved g t c =
     record {
       leaves = leaves_then c.turns.invariant.leaves c.in-Some.ensures.does.leaves;
       told = told_kept g.G.Game.means g.G.Game.line g.S.Store.store c.args.line.now c.turns.self c.expand_move.new.self c.in-Some.ensures.does.leaves c.turns.invariant.told;
-      small = all_small_set c.turns.pairs c.choice-k.result c.in-Some.found.pair c.turns.invariant.small
-          (moved_small g.G.Game.means g.G.Game.line g.S.Store.store c.choice-k.result c.limits-next.result c.in-Some.found c.turns.self c.expand_move.new.self c.in-Some.ensures.does);
+      small = All-set Small c.turns.pairs c.choice-k.result c.in-Some.found.pair
+          (moved_small g.G.Game.means g.G.Game.line g.S.Store.store c.choice-k.result c.limits-next.result c.in-Some.found c.turns.self c.expand_move.new.self c.in-Some.ensures.does) c.turns.invariant.small;
       rest = λ r d h.
           c.turns.invariant.rest r d
           (turn_goes g.G.Game.means g.G.Game.line g.S.Store.store c.args.line.now c.turns.pairs c.turns.self c.turns.invariant.told c.pair-pair.result c.pair-pair.ensures c.choice-k.result c.limits-next.result
