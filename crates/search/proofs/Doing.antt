@@ -1,9 +1,8 @@
 -- Parts of the search, one after another, and the plays between them.
-use Rattle.std.proofs.Common.{◌≡◌, ℕ, suc, ◌+◌, ◌-◌, ◌<◌, ◌≤◌, ◌∷◌, is_some, Some, None, Option, sym, refl, ap, ◌∙◌, subst, add-one, arith}
+use Rattle.std.proofs.Common.{◌≡◌, ℕ, ◌+◌, ◌-◌, ◌<◌, ◌∷◌, is_some, Some, None, Option, sym, refl, ap, ◌∙◌, subst, add-one, arith}
 use mathlib.Core.Path.{subst₃}
 use Rattle.game.specs.Meaning.{Line, Meaning}
 use Rattle.game.specs.Laws.{Bounded, Room}
-use Rattle.game.specs.Kept.{Kept}
 use Rattle.game.proofs.Bounds.{room_under}
 use Rattle.game.proofs.Kept.{kept_same, kept_then, visited}
 use Rattle.store.specs.Interface.{StoreMeaning}

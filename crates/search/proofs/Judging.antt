@@ -6,7 +6,7 @@ use Rattle.store.specs.Interface.{StoreMeaning}
 use Rattle.store.specs.declared.entry.Entry.{Entry}
 use Rattle.search_method.specs.declared.kinds.Pair.{Pair}
 use Rattle.search_method.specs.Pairs.{settled, unknown}
-use Rattle.search_method.specs.Search.{Part, give, ◌>>=◌}
+use Rattle.search_method.specs.Search.{give, ◌>>=◌}
 use Rattle.search.specs.declared.searcher.Searcher.{Searcher}
 use Rattle.search.specs.Moves.{here, Leaves}
 use Rattle.search.specs.Does.{At, Reads}

@@ -1,5 +1,5 @@
 -- The numbers of a line's moves as the side on turn sees them, and how large they are.
-use Rattle.std.specs.Prelude.{ℕ, ◌+◌, ◌-◌, ◌<◌, ◌≤◌, min, Bool, true, false, cond, ◌||◌, List, [], ◌∷◌, map, Some, None, Option, ◌==◌}
+use Rattle.std.specs.Prelude.{ℕ, ◌+◌, ◌-◌, ◌<◌, ◌≤◌, min, Bool, true, false, cond, ◌||◌, List, map, Some, None, Option, ◌==◌}
 use Rattle.store.specs.declared.entry.Finding.{Finding}
 use Rattle.store.specs.declared.entry.Finding.TheVariants.{Verdict, Open}
 use Rattle.search_method.specs.declared.kinds.Pair.{Pair}

@@ -117,9 +117,7 @@ impl Row<'_> {
     fn position_of(&self, x: u32) -> Option<usize>
         ensures { result ≡ position (λ p. (seen self.now.black p).pn == x) self.now.pairs.now }
     {
-        self.pairs
-            .iter()
-            .position(|p| self.seen(*p).pn == x)
+        self.pairs.iter().position(|p| self.seen(*p).pn == x)
     }
 
     // The same, or the number of moves.

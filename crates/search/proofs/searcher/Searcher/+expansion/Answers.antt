@@ -1,7 +1,7 @@
-use Rattle.std.proofs.Common.{◌≡◌, None, sym, ap, ◌∙◌, arith, rules}
+use Rattle.std.proofs.Common.{ap, arith, rules}
 use Rattle.std.specs.List.{All}
 use Rattle.std.proofs.lemmas.List.Elements.{All-set}
-use Rattle.search_method.specs.Search.{height_of, moves_left}
+use Rattle.search_method.specs.Search.{height_of}
 use Rattle.search.specs.Numbers.{Small}
 use Rattle.search.proofs.Doing.{leaves_then}
 use Rattle.search.proofs.Smalls.{evaluate_small, moved_small}

@@ -1,4 +1,4 @@
-use Rattle.std.proofs.Common.{length, take, set, arith, take_all}
+use Rattle.std.proofs.Common.{length, take, arith, take_all}
 use Rattle.std.proofs.lemmas.List.{take_more_set}
 use Rattle.search.proofs.Judging.{judging_more, judging_exhausted, judging_all}
 use Rattle.search.proofs.searcher.Searcher.evaluate.Goals as goal
