@@ -14,10 +14,6 @@ use Rattle.search.specs.Moves.{Holds, Played, Plays, TakesBack, Leaves}
 use Rattle.search.specs.Does.{came, At, Does, Reads}
 use Rattle.search.specs.Parts.{after}
 
--- with a play left, what follows it is done with one less
-play_one : {A : Type 0} (x : Part A) (n : ℕ) → played x (n + 1) ≡ x n
-play_one x n = rw add-one refl
-
 -- where a line of a bounded game goes on, moves are left
 pub moves_left_lem : (m : Meaning) (l : Line) → Bounded m → Room m l → (m.view l).score ≡ None → 0 < moves_left m l
 moves_left_lem m l bounded room going =
@@ -68,24 +64,6 @@ module _ {G S : Type 0} {means : G → Meaning} {line : G → Line} where
         record {
           leaves = p.leaves;
           runs = runs_bind 𝓢 (x (means a.game.now) a.floor (line a.game.now) a.left) (next (λ v. y v (means a.game.now) a.floor (line a.game.now))) a.store.now b.store.now b.store.now exhausted exhausted p.runs (refl, refl);
-        }
-
-    -- a play of which there is none
-    pub unplayed : {A : Type 0} (x : At A) {k : ℕ} {a b : Searcher G S} → Plays means line k a None b → Does means line 𝓢 (after k x) a None b
-    unplayed {A} x {k} {a} {b} p =
-        subst (λ (b : Searcher G S). Does means line 𝓢 (after k x) a None b) (sym p.1) (record { leaves = stays a; runs = rw p.0 (refl, refl) })
-
-    -- a move is played, a part is done there, and the move is taken back
-    pub visits : {A : Type 0} (x : At A) {k : ℕ} {a b c d : Searcher G S} {r : Option A}
-        → Played means line k a b → Does means line 𝓢 x b r c → TakesBack means line c d → Does means line 𝓢 (after k x) a r d
-    visits {A} x {k} {a} {b} {c} {d} {r} p h t =
-        record {
-          leaves = record {
-            holds = holds_then p.holds (holds_then h.leaves.holds t.holds);
-            kept = visited p.same p.goes h.leaves.kept t.same t.goes;
-            less = omega (arith, p.counted, h.leaves.less, t.left);
-          };
-          runs = rw (p.counted, play_one, ← p.same, ← p.goes, ← p.holds.floor, ← p.reads, t.left, t.reads) h.runs;
         }
 
     -- the same where the store is only read

@@ -133,14 +133,14 @@ expand_small m floor (suc h) l lim n =
     after exhausted = tt
     after (got ps n) = turns_small m floor (expand m floor h) (suc n) l lim ps n
 
-module _ {G S : Type 0} (means : G → Meaning) (line : G → Line) (𝓢 : StoreMeaning S) where
-  pub evaluate_small : (ps : List Pair) (a b : Searcher G S) → Does means line 𝓢 evaluating a (Some ps) b → (All Small) ps
-  evaluate_small ps a b h =
+module _ {G S : Type 0} {means : G → Meaning} {line : G → Line} {𝓢 : StoreMeaning S} where
+  pub evaluate_small : (ps : List Pair) {a b : Searcher G S} → Does means line 𝓢 evaluating a (Some ps) b → (All Small) ps
+  evaluate_small ps {a} {b} h =
       always_runs 𝓢 (IfGot (All Small)) (evaluating (means a.game.now) a.floor (line a.game.now) a.left) a.store.now b.store.now (got ps b.left)
       (each_small (λ k. judging (means a.game.now) a.floor (k ∷ line a.game.now)) (λ k n. judge_small (means a.game.now) a.floor (moves_left (means a.game.now) (k ∷ line a.game.now)) (k ∷ line a.game.now) n)
       ((means a.game.now).view (line a.game.now)).moves 0 a.left) h.runs
 
-  pub moved_small : (k : ℕ) (limit : Pair) (w : Worked) (a b : Searcher G S) → Does means line 𝓢 (after k (expanding limit)) a (Some w) b → Small w.pair
-  moved_small k limit w a b h =
+  pub moved_small : (k : ℕ) (limit : Pair) (w : Worked) {a b : Searcher G S} → Does means line 𝓢 (after k (expanding limit)) a (Some w) b → Small w.pair
+  moved_small k limit w {a} {b} h =
       always_runs 𝓢 (IfGot SmallPair) (after k (expanding limit) (means a.game.now) a.floor (line a.game.now) a.left) a.store.now b.store.now (got w b.left)
       (played_small SmallPair (expanding limit (means a.game.now) a.floor (k ∷ line a.game.now)) (expand_small (means a.game.now) a.floor (moves_left (means a.game.now) (k ∷ line a.game.now)) (k ∷ line a.game.now) limit) a.left) h.runs
