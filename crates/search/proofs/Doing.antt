@@ -1,18 +1,17 @@
 -- Parts of the search, one after another, and the plays between them.
-use Rattle.std.proofs.Common.{◌≡◌, ℕ, ◌+◌, ◌-◌, ◌<◌, ◌∷◌, is_some, Some, None, Option, sym, refl, ap, ◌∙◌, subst, add-one, arith}
+use Rattle.std.proofs.Common.{◌≡◌, ℕ, ◌-◌, ◌<◌, ◌∷◌, is_some, Some, None, Option, sym, refl, ap, ◌∙◌, subst, arith}
 use mathlib.Core.Path.{subst₃}
 use Rattle.game.specs.Meaning.{Line, Meaning}
 use Rattle.game.specs.Laws.{Bounded, Room}
 use Rattle.game.proofs.Bounds.{room_under}
-use Rattle.game.proofs.Kept.{kept_same, kept_then, visited}
+use Rattle.game.proofs.Kept.{kept_same, kept_then}
 use Rattle.store.specs.Interface.{StoreMeaning}
 use Rattle.search_method.specs.Tree.{Tree, Runs}
-use Rattle.search_method.specs.Search.{Out, exhausted, got, Part, give, next, ◌>>=◌, played, height_of, moves_left}
+use Rattle.search_method.specs.Search.{Out, exhausted, got, give, next, ◌>>=◌, height_of, moves_left}
 use Rattle.search_method.proofs.Runs.{runs_bind}
 use Rattle.search.specs.declared.searcher.Searcher.{Searcher}
-use Rattle.search.specs.Moves.{Holds, Played, Plays, TakesBack, Leaves}
+use Rattle.search.specs.Moves.{Holds, Leaves}
 use Rattle.search.specs.Does.{came, At, Does, Reads}
-use Rattle.search.specs.Parts.{after}
 
 -- where a line of a bounded game goes on, moves are left
 pub moves_left_lem : (m : Meaning) (l : Line) → Bounded m → Room m l → (m.view l).score ≡ None → 0 < moves_left m l

@@ -19,10 +19,10 @@ use Rattle.search_method.specs.Search.{Out, exhausted, got, Part, ◌>>=◌, eit
 use Rattle.search_method.proofs.Runs.{runs_bind}
 use Rattle.search.specs.declared.memory.LineRecord.{LineRecord}
 use Rattle.search.specs.declared.searcher.Searcher.{Searcher}
-use Rattle.search.specs.Moves.{here, Played, TakesBack, Notes, Leaves}
+use Rattle.search.specs.Moves.{here, Notes, Leaves}
 use Rattle.search.specs.Does.{came, At, Does}
 use Rattle.search.specs.Parts.{after, evaluating, expanding, turning}
-use Rattle.search.specs.Numbers.{mine, finding_of, Small, Costs}
+use Rattle.search.specs.Numbers.{mine, finding_of, Small}
 use Rattle.search.specs.Lines.{record_of}
 use Rattle.search.proofs.Smalls.{moved_small}
 use Rattle.search.proofs.Doing.{less_left, stays, leaves_then, does_as, does_then, does_exhausted}

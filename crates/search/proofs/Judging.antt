@@ -1,6 +1,5 @@
 -- The initial evaluation: a verdict that is confirmed, and the moves that have been judged.
 use Rattle.std.proofs.Common.{◌≡◌, ℕ, suc, ◌+◌, ◌-◌, ◌<◌, ◌≤◌, Bool, cond, List, [], ◌∷◌, ◌++◌, Some, None, Option, sym, refl, ap, ◌∙◌, subst, append_assoc, append-nil, arith}
-use native.Mathlib.Nat.{sub-zero}
 use Rattle.game.specs.Meaning.{Line, Meaning}
 use Rattle.store.specs.Interface.{StoreMeaning}
 use Rattle.store.specs.declared.entry.Entry.{Entry}
@@ -11,7 +10,7 @@ use Rattle.search.specs.declared.searcher.Searcher.{Searcher}
 use Rattle.search.specs.Moves.{here, Leaves}
 use Rattle.search.specs.Does.{At, Reads}
 use Rattle.search.specs.Parts.{after, simulation, confirming, judging, all_judging, evaluating}
-use Rattle.search.proofs.Doing.{stays, leaves_then, reads_give, reads_as, reads_then, reads_exhausted}
+use Rattle.search.proofs.Doing.{leaves_then, reads_give, reads_as, reads_then, reads_exhausted}
 
 -- pairs before those of a row
 abbrev pub prepend : List Pair → Option (List Pair) → Option (List Pair)

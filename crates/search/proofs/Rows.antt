@@ -134,23 +134,23 @@ sum_below true limit ps h = grind (arith, nat_tests)
 sum_below false limit ps h = grind (arith, nat_tests)
 
 -- what the limit on the sum wants
-pub limits_fit : (black : Bool) (limit : Pair) (ps : List Pair) (k : ℕ) (lim own : Pair) (total : ℕ)
+pub limits_fit : (black : Bool) (limit : Pair) (ps : List Pair) (k : ℕ) {lim own : Pair} {total : ℕ}
     → lim ≡ seen black limit → own ≡ seen black (get_or ps k zeros) → total ≡ sum (theirs black ps)
     → Small limit → reached limit (pair_of black ps) ≡ false → All Small ps → k < length ps
     → (lim.dn ≤ INF) × (total ≤ lim.dn) × (own.dn ≤ total)
-limits_fit black limit ps k lim own total e f g cap below small lt =
+limits_fit black limit ps k e f g cap below small lt =
     let a : sum (theirs black ps) < (seen black limit).dn = sum_below black limit ps below in
     let b : (seen black limit).dn ≤ INF = seen_small black limit cap in
     let o : (seen black (get_or ps k zeros)).dn ≤ sum (theirs black ps) = own_le_sum black ps k small lt (omega arith) in
     rw (e, f, g) (b, omega arith, o)
 
 -- the limits of the chosen move
-pub limits_are : (black : Bool) (limit : Pair) (ps : List Pair) (k : ℕ) (lim own r : Pair) (pn dn second total : ℕ)
+pub limits_are : (black : Bool) (limit : Pair) (ps : List Pair) {k : ℕ} {lim own r : Pair} {pn dn second total : ℕ}
     → lim ≡ seen black limit → own ≡ seen black (get_or ps k zeros) → total ≡ sum (theirs black ps)
     → second ≡ least (others k (mine black ps)) → k ≡ choice_of black ps → k < length ps
     → pn ≡ own_limit lim.pn second → dn ≡ other_limit lim.dn total own.dn
     → r ≡ seen black (record { pn = pn; dn = dn }) → r ≡ limits_of black limit ps
-limits_are black limit ps k lim own r pn dn second total el eo et es ek lt ep ed er =
+limits_are black limit ps {k} {lim} {own} {r} {pn} {dn} {second} {total} el eo et es ek lt ep ed er =
     let fo : own ≡ get_or (map (seen black) ps) (choice_of black ps) unknown = eo ∙ (sym (get_or-map (seen black) ps k zeros unknown lt) ∙ ap (λ n. get_or (map (seen black) ps) n unknown) ek) in
     let fs : second ≡ least (others (choice_of black ps) (mine black ps)) = es ∙ ap (λ n. least (others n (mine black ps))) ek in
     let fp : pn ≡ own_limit (seen black limit).pn (least (others (choice_of black ps) (mine black ps))) = ep ∙ ap₂ (λ (l : Pair) n. own_limit l.pn n) el fs in

@@ -1,6 +1,5 @@
 -- Simulation: what a line comes to by its step, and the moves that are tried.
 use Rattle.std.proofs.Common.{◌≡◌, ℕ, zero, suc, ◌+◌, ◌-◌, ◌<◌, ◌≤◌, Bool, true, false, cond, ◌&&◌, ltb, ◌∷◌, Some, None, Option, sym, refl, ap, ◌∙◌, arith}
-use native.Mathlib.Nat.{sub-zero}
 use mathlib.Core.Bool.{beq}
 use Rattle.game.specs.Meaning.{Line, Meaning}
 use Rattle.game.specs.Laws.{Bounded, Room}
@@ -17,7 +16,7 @@ use Rattle.search.specs.Moves.{here, Leaves}
 use Rattle.search.specs.Does.{At, Reads}
 use Rattle.search.specs.Parts.{after, simulation, holding, all_holding}
 use Rattle.search.specs.Steps.{step_without, step_by, step_of, go_by}
-use Rattle.search.proofs.Doing.{moves_left_lem, less_left, stays, leaves_then, reads_give, reads_as, reads_then, reads_exhausted}
+use Rattle.search.proofs.Doing.{moves_left_lem, less_left, leaves_then, reads_give, reads_as, reads_then, reads_exhausted}
 
 -- what a step comes to, where `go` simulates one move on
 abbrev stepped : (ℕ → Part Bool) → Step → Part Bool
