@@ -1,23 +1,17 @@
 -- Parts of the search, one after another, and the plays between them.
-use Rattle.std.proofs.Common.{◌≡◌, ℕ, suc, ◌+◌, ◌-◌, ◌<◌, ◌≤◌, ◌∷◌, is_some, Some, None, Option, sym, refl, ap, ◌∙◌, subst, add-one, arith}
+use Rattle.std.proofs.Common.{◌≡◌, ℕ, ◌-◌, ◌<◌, ◌∷◌, is_some, Some, None, Option, sym, refl, ap, ◌∙◌, subst, arith}
 use mathlib.Core.Path.{subst₃}
 use Rattle.game.specs.Meaning.{Line, Meaning}
 use Rattle.game.specs.Laws.{Bounded, Room}
-use Rattle.game.specs.Kept.{Kept}
 use Rattle.game.proofs.Bounds.{room_under}
-use Rattle.game.proofs.Kept.{kept_same, kept_then, visited}
+use Rattle.game.proofs.Kept.{kept_same, kept_then}
 use Rattle.store.specs.Interface.{StoreMeaning}
 use Rattle.search_method.specs.Tree.{Tree, Runs}
-use Rattle.search_method.specs.Search.{Out, exhausted, got, Part, give, next, ◌>>=◌, played, height_of, moves_left}
+use Rattle.search_method.specs.Search.{Out, exhausted, got, give, next, ◌>>=◌, height_of, moves_left}
 use Rattle.search_method.proofs.Runs.{runs_bind}
 use Rattle.search.specs.declared.searcher.Searcher.{Searcher}
-use Rattle.search.specs.Moves.{Holds, Played, Plays, TakesBack, Leaves}
-use Rattle.search.specs.Does.{came, At, Does}
-use Rattle.search.specs.Parts.{after}
-
--- with a play left, what follows it is done with one less
-play_one : {A : Type 0} (x : Part A) (n : ℕ) → played x (n + 1) ≡ x n
-play_one x n = rw add-one refl
+use Rattle.search.specs.Moves.{Holds, Leaves}
+use Rattle.search.specs.Does.{came, At, Does, Reads}
 
 -- where a line of a bounded game goes on, moves are left
 pub moves_left_lem : (m : Meaning) (l : Line) → Bounded m → Room m l → (m.view l).score ≡ None → 0 < moves_left m l
@@ -71,20 +65,19 @@ module _ {G S : Type 0} {means : G → Meaning} {line : G → Line} where
           runs = runs_bind 𝓢 (x (means a.game.now) a.floor (line a.game.now) a.left) (next (λ v. y v (means a.game.now) a.floor (line a.game.now))) a.store.now b.store.now b.store.now exhausted exhausted p.runs (refl, refl);
         }
 
-    -- a play of which there is none
-    pub unplayed : {A : Type 0} (x : At A) {k : ℕ} {a b : Searcher G S} → Plays means line k a None b → Does means line 𝓢 (after k x) a None b
-    unplayed {A} x {k} {a} {b} p =
-        subst (λ (b : Searcher G S). Does means line 𝓢 (after k x) a None b) (sym p.1) (record { leaves = stays a; runs = rw p.0 (refl, refl) })
+    -- the same where the store is only read
+    pub reads_give : {A : Type 0} (x : A) (a : Searcher G S) → Reads means line 𝓢 (λ m floor l. give x) a (Some x) a
+    reads_give x a = record { does = does_give x a; same = refl }
 
-    -- a move is played, a part is done there, and the move is taken back
-    pub visits : {A : Type 0} (x : At A) {k : ℕ} {a b c d : Searcher G S} {r : Option A}
-        → Played means line k a b → Does means line 𝓢 x b r c → TakesBack means line c d → Does means line 𝓢 (after k x) a r d
-    visits {A} x {k} {a} {b} {c} {d} {r} p h t =
-        record {
-          leaves = record {
-            holds = holds_then p.holds (holds_then h.leaves.holds t.holds);
-            kept = visited p.same p.goes h.leaves.kept t.same t.goes;
-            less = omega (arith, p.counted, h.leaves.less, t.left);
-          };
-          runs = rw (p.counted, play_one, ← p.same, ← p.goes, ← p.holds.floor, ← p.reads, t.left, t.reads) h.runs;
-        }
+    pub reads_as : {A : Type 0} (x y : At A) {a b : Searcher G S} {r : Option A}
+        → x (means a.game.now) a.floor (line a.game.now) a.left ≡ y (means a.game.now) a.floor (line a.game.now) a.left
+        → Reads means line 𝓢 y a r b → Reads means line 𝓢 x a r b
+    reads_as x y e h = record { does = does_as x y e h.does; same = h.same }
+
+    pub reads_then : {A B : Type 0} (x : At A) (y : A → At B) {a b c : Searcher G S} {v : A} {r : Option B}
+        → Reads means line 𝓢 x a (Some v) b → Reads means line 𝓢 (y v) b r c → Reads means line 𝓢 (λ m floor l. x m floor l >>= (λ v. y v m floor l)) a r c
+    reads_then x y p q = record { does = does_then x y p.does q.does; same = q.same ∙ p.same }
+
+    pub reads_exhausted : {A B : Type 0} (x : At A) (y : A → At B) {a b : Searcher G S}
+        → Reads means line 𝓢 x a None b → Reads means line 𝓢 (λ m floor l. x m floor l >>= (λ v. y v m floor l)) a None b
+    reads_exhausted x y p = record { does = does_exhausted x y p.does; same = p.same }

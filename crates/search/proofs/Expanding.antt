@@ -1,10 +1,11 @@
 -- The expansion of a line: its turns so far, and how they end.
-use Rattle.std.proofs.Common.{◌≡◌, ℕ, zero, suc, ◌-◌, ◌<◌, ◌≤◌, Bool, true, false, cond, eqb, List, [], ◌∷◌, set, Some, None, Option, sym, refl, ap, ◌∙◌, subst, subst₂, arith}
+use Rattle.std.proofs.Common.{◌≡◌, ℕ, zero, suc, ◌-◌, ◌<◌, Bool, true, false, cond, eqb, List, [], ◌∷◌, set, Some, None, Option, sym, refl, ap, ◌∙◌, subst, subst₂, arith}
 use mathlib.Core.Path.{subst₃}
+use Rattle.std.specs.List.{All}
+use Rattle.std.proofs.lemmas.List.Elements.{All-set}
 use Rattle.game.specs.declared.kinds.Score.{Score}
 use Rattle.game.specs.Meaning.{Line, Meaning}
 use Rattle.game.specs.Value.{black_moves}
-use Rattle.game.proofs.Kept.{kept_same}
 use Rattle.store.specs.Interface.{StoreMeaning}
 use Rattle.store.specs.declared.entry.Entry.{Entry}
 use Rattle.store.specs.declared.entry.Finding.{Finding}
@@ -18,11 +19,12 @@ use Rattle.search_method.specs.Search.{Out, exhausted, got, Part, ◌>>=◌, eit
 use Rattle.search_method.proofs.Runs.{runs_bind}
 use Rattle.search.specs.declared.memory.LineRecord.{LineRecord}
 use Rattle.search.specs.declared.searcher.Searcher.{Searcher}
-use Rattle.search.specs.Moves.{Played, TakesBack, Notes, Leaves}
+use Rattle.search.specs.Moves.{here, Notes, Leaves}
 use Rattle.search.specs.Does.{came, At, Does}
 use Rattle.search.specs.Parts.{after, evaluating, expanding, turning}
-use Rattle.search.specs.Numbers.{mine, finding_of, AllSmall, Costs}
+use Rattle.search.specs.Numbers.{mine, finding_of, Small}
 use Rattle.search.specs.Lines.{record_of}
+use Rattle.search.proofs.Smalls.{moved_small}
 use Rattle.search.proofs.Doing.{less_left, stays, leaves_then, does_as, does_then, does_exhausted}
 
 -- what is recorded of a line is its outcome
@@ -83,6 +85,23 @@ noted : {G S : Type 0} {means : G → Meaning} {line : G → Line} {𝓢 : Store
 noted {means = means} {line = line} h =
     record { holds = h.holds; kept = record { same = ap means h.game; back = ap line h.game }; less = omega (arith, h.left) }
 
+-- the record is that of the line at which a searcher stands, wherever it has been meanwhile
+abbrev pub Told : {G S : Type 0} → (G → Meaning) → (G → Line) → LineRecord → Searcher G S → Type 0
+Told means line x a = x ≡ record_of (means a.game.now) a.floor (line a.game.now) x.limit
+
+pub told_kept : {G S : Type 0} {means : G → Meaning} {line : G → Line} (x : LineRecord) {a b : Searcher G S} → Leaves means line a b → Told means line x a → Told means line x b
+told_kept x p told = told ∙ sym (λ i. record_of (p.kept.same i) (p.holds.floor i) (p.kept.back i) x.limit)
+
+-- an initial evaluation, and then the turns
+abbrev turns_of : Pair → List Pair → At Worked
+turns_of limit ps m floor l n = turning (suc n) limit ps m floor l n
+
+evaluates : (limit : Pair) (m : Meaning) (floor : ℕ) (l : Line) (n : ℕ) → 0 < moves_left m l →
+    expanding limit m floor l n ≡ (evaluating m floor l >>= (λ ps. turns_of limit ps m floor l)) n
+evaluates limit m floor l n pos =
+    expand_more m floor (moves_left m l) l limit n pos
+    ∙ (λ i. (each (λ k. judge m floor (less_left m l k i) (k ∷ l)) 0 (m.view l).moves >>= (λ ps. turns_of limit ps m floor l)) n)
+
 module _ {G S : Type 0} (means : G → Meaning) (line : G → Line) (𝓢 : StoreMeaning S) where
   -- what `expand`, `expand_move` and `take_turns` do
   abbrev pub Expands : Pair → Searcher G S → Option Worked → Searcher G S → Type 0
@@ -94,15 +113,15 @@ module _ {G S : Type 0} (means : G → Meaning) (line : G → Line) (𝓢 : Stor
   abbrev pub Settles : Pair → List Pair → Searcher G S → Option Worked → Searcher G S → Type 0
   Settles limit ps a r b = (f : ℕ) → a.left < f → Does means line 𝓢 (turning f limit ps) a r b
 
-  -- the record is that of the line at which a searcher stands, wherever it has been meanwhile
-  abbrev pub Told : LineRecord → Searcher G S → Type 0
-  Told x a = x ≡ record_of (means a.game.now) a.floor (line a.game.now) x.limit
-
-  pub told_kept : (x : LineRecord) (a b : Searcher G S) → Leaves means line a b → Told x a → Told x b
-  told_kept x a b p told = told ∙ sym (λ i. record_of (p.kept.same i) (p.holds.floor i) (p.kept.back i) x.limit)
+  -- the turns so far, from ps at a to qs at b: however the rest ends, so does the whole
+  pub record Turning (x : LineRecord) (ps : List Pair) (a : Searcher G S) (qs : List Pair) (b : Searcher G S) : Type 0 where
+    pub leaves : Leaves means line a b
+    pub told : Told means line x b
+    pub small : All Small qs
+    pub rest : (r : Option Worked) (c : Searcher G S) → Settles x.limit qs b r c → Settles x.limit ps a r c
 
   -- one turn
-  module _ (x : LineRecord) (ps : List Pair) (a : Searcher G S) (told : Told x a) (pair : Pair) (is_pair : pair ≡ pair_of x.black ps) where
+  module _ (x : LineRecord) (ps : List Pair) (a : Searcher G S) (told : Told means line x a) (pair : Pair) (is_pair : pair ≡ pair_of x.black ps) where
     abbrev m : Meaning
     m = means a.game.now
 
@@ -185,58 +204,53 @@ module _ {G S : Type 0} (means : G → Meaning) (line : G → Line) (𝓢 : Stor
             runs = goes_on None b c None f (omega arith) move (c.store.now, subst (λ (y : Entry). 𝓢.records b.store.now y c.store.now) same_entry h.records, (refl, refl));
           }
 
-  -- the turns so far, from ps at a to qs at b: however the rest ends, so does the whole
-  pub record Turning (x : LineRecord) (ps : List Pair) (a : Searcher G S) (qs : List Pair) (b : Searcher G S) : Type 0 where
-    pub leaves : Leaves means line a b
-    pub told : Told x b
-    pub small : AllSmall qs
-    pub rest : (r : Option Worked) (c : Searcher G S) → Settles x.limit qs b r c → Settles x.limit ps a r c
+module _ {G S : Type 0} {means : G → Meaning} {line : G → Line} {𝓢 : StoreMeaning S} where
+  -- the turns after which a limit is reached, no play is left, or there is another turn
+  module _ {x : LineRecord} {ps qs : List Pair} {a b : Searcher G S} (so_far : Turning means line 𝓢 x ps a qs b) {pair : Pair} (is_pair : pair ≡ pair_of x.black qs) where
+    pub turning_left : {found : Finding} {c : Searcher G S} → true ≡ reached x.limit pair → found ≡ finding_of x.black x.independent qs
+        → Notes 𝓢 (record { key = x.key; finding = found }) b c → Settles means line 𝓢 x.limit ps a (Some (record { pair = pair; finding = found })) c
+    turning_left {found} {c} at_limit is_found h = so_far.rest _ c (turn_leaves means line 𝓢 x qs b so_far.told pair is_pair found c at_limit is_found h)
 
-  pub turning_none : (x : LineRecord) (ps : List Pair) (a : Searcher G S) → Told x a → AllSmall ps → Turning x ps a ps a
-  turning_none x ps a told small = record { leaves = stays a; told = told; small = small; rest = λ r c h. h }
+    module _ {k : ℕ} {next : Pair} (open_yet : false ≡ reached x.limit pair) (is_k : k ≡ choice_of x.black qs) (is_next : next ≡ limits_of x.black x.limit qs) where
+      pub turning_stopped : {c d : Searcher G S} → Moved means line 𝓢 k next b None c → Notes 𝓢 (record { key = x.key; finding = Open pair.pn pair.dn }) c d
+          → Settles means line 𝓢 x.limit ps a None d
+      turning_stopped {c} {d} move h = so_far.rest None d (turn_stops means line 𝓢 x qs b so_far.told pair is_pair k next open_yet is_k is_next c d move h)
+
+      pub turning_more : {w : Worked} {c : Searcher G S} → Moved means line 𝓢 k next b (Some w) c → c.left < b.left → Turning means line 𝓢 x ps a (set qs k w.pair) c
+      turning_more {w} {c} move falls =
+          record {
+            leaves = leaves_then so_far.leaves move.leaves;
+            told = told_kept x move.leaves so_far.told;
+            small = All-set Small qs k w.pair (moved_small k next w move) so_far.small;
+            rest = λ r d h. so_far.rest r d (turn_goes means line 𝓢 x qs b so_far.told pair is_pair k next open_yet is_k is_next w c d r falls move h);
+          }
 
   -- no move may be left
-  pub expand_ends : (limit : Pair) (a : Searcher G S) → moves_left (means a.game.now) (line a.game.now) ≡ 0 → Expands limit a None a
-  expand_ends limit a e =
+  pub expand_ends : (limit : Pair) {a : Searcher G S} → moves_left (means a.game.now) (line a.game.now) ≡ 0 → Expands means line 𝓢 limit a None a
+  expand_ends limit {a} e =
       record {
         leaves = stays a;
         runs = subst (λ (x : Tree (Out Worked)). Runs 𝓢 x a.store.now a.store.now exhausted) (sym (expand_end (means a.game.now) a.floor (moves_left (means a.game.now) (line a.game.now)) (line a.game.now) limit a.left e)) (refl, refl);
       }
 
-  -- an initial evaluation, and then the turns
-  abbrev turns_of : Pair → List Pair → At Worked
-  turns_of limit ps m floor l n = turning (suc n) limit ps m floor l n
-
-  evaluates : (limit : Pair) (m : Meaning) (floor : ℕ) (l : Line) (n : ℕ) → 0 < moves_left m l →
-      expanding limit m floor l n ≡ (evaluating m floor l >>= (λ ps. turns_of limit ps m floor l)) n
-  evaluates limit m floor l n pos =
-      expand_more m floor (moves_left m l) l limit n pos
-      ∙ (λ i. (each (λ k. judge m floor (less_left m l k i) (k ∷ l)) 0 (m.view l).moves >>= (λ ps. turns_of limit ps m floor l)) n)
-
-  pub expand_exhausted : (limit : Pair) (a b : Searcher G S) → 0 < moves_left (means a.game.now) (line a.game.now)
-      → Does means line 𝓢 evaluating a None b → Expands limit a None b
-  expand_exhausted limit a b pos evaluated =
+  pub expand_exhausted : (limit : Pair) {a b : Searcher G S} → 0 < moves_left (means a.game.now) (line a.game.now)
+      → Does means line 𝓢 evaluating a None b → Expands means line 𝓢 limit a None b
+  expand_exhausted limit {a} pos evaluated =
       does_as (expanding limit) (λ m floor l. evaluating m floor l >>= (λ ps. turns_of limit ps m floor l)) (evaluates limit (means a.game.now) a.floor (line a.game.now) a.left pos)
       (does_exhausted evaluating (turns_of limit) evaluated)
 
-  pub expand_settled : (limit : Pair) (ps : List Pair) (a b c : Searcher G S) (r : Option Worked) → 0 < moves_left (means a.game.now) (line a.game.now)
-      → Does means line 𝓢 evaluating a (Some ps) b → Settles limit ps b r c → Expands limit a r c
-  expand_settled limit ps a b c r pos evaluated settled =
+  pub expand_settled : (limit : Pair) {ps : List Pair} {a b c : Searcher G S} {r : Option Worked} → 0 < moves_left (means a.game.now) (line a.game.now)
+      → Does means line 𝓢 evaluating a (Some ps) b → Settles means line 𝓢 limit ps b r c → Expands means line 𝓢 limit a r c
+  expand_settled limit {ps} {a} {b} pos evaluated settled =
       does_as (expanding limit) (λ m floor l. evaluating m floor l >>= (λ ps. turns_of limit ps m floor l)) (evaluates limit (means a.game.now) a.floor (line a.game.now) a.left pos)
       (does_then evaluating (turns_of limit) evaluated (does_as (turns_of limit ps) (turning (suc b.left) limit ps) refl (settled (suc b.left) (omega arith))))
 
   -- a line that is not over is expanded without limits
-  pub solve_expands : (budget : ℕ) (found : Option Worked) (a b : Searcher G S) (r : Answer) → ((means a.game.now).view (line a.game.now)).score ≡ None → a.left ≡ budget
-      → Expands no_limits a found b → r ≡ answer budget (came found b.left)
-      → (t : S) → t ≡ b.store.now → Runs 𝓢 (solve (means a.game.now) (line a.game.now) a.floor budget) a.store.now t r
-  solve_expands budget found a b r going all expands is t at_end =
+  pub solve_expands : (budget : ℕ) {found : Option Worked} {a b : Searcher G S} {r : Answer} → (here means line a).score ≡ None → a.left ≡ budget
+      → Expands means line 𝓢 no_limits a found b → r ≡ answer budget (came found b.left)
+      → {t : S} → t ≡ b.store.now → Runs 𝓢 (solve (means a.game.now) (line a.game.now) a.floor budget) a.store.now t r
+  solve_expands budget {found} {a} {b} {r} going all expands is {t} at_end =
       rw at_end
       (subst (λ (o : Option Score). Runs 𝓢 (solve_by (means a.game.now) (line a.game.now) a.floor budget o) a.store.now b.store.now r) (sym going)
       (runs_bind 𝓢 (expanding no_limits (means a.game.now) a.floor (line a.game.now) budget) (λ o. done (answer budget o)) a.store.now b.store.now b.store.now (came found b.left) r
       (subst (λ n. Runs 𝓢 (expanding no_limits (means a.game.now) a.floor (line a.game.now) n) a.store.now b.store.now (came found b.left)) all expands.runs) (refl, sym is)))
-
--- a play was counted
-pub costs_play : {G S : Type 0} {means : G → Meaning} {line : G → Line} {k : ℕ} {a b c d : Searcher G S} (r : Option Worked)
-    → Played means line k a b → Leaves means line b c → TakesBack means line c d → Costs r a.left d.left
-costs_play None p h t = tt
-costs_play (Some w) p h t = omega (arith, p.counted, h.less, t.left)

@@ -1,13 +1,13 @@
 -- The numbers of a line's moves.
-use Rattle.std.proofs.Common.{◌≡◌, ℕ, zero, suc, ◌+◌, ◌-◌, ◌<◌, ◌≤◌, min, Bool, true, false, cond, not, ◌||◌, eqb, ltb, List, [], ◌∷◌, map, reverse, length, get_or, take, drop, Some, None, Option, unwrap_or, sym, refl, ap, ◌∙◌, ap₂, arith}
-use Rattle.std.specs.List.{fold, position, position_or_len}
+use Rattle.std.proofs.Common.{◌≡◌, ℕ, zero, suc, ◌+◌, ◌<◌, ◌≤◌, min, Bool, true, false, cond, not, ◌||◌, eqb, ltb, List, [], ◌∷◌, map, reverse, length, get_or, take, drop, Some, None, unwrap_or, sym, refl, ap, ◌∙◌, ap₂, arith}
+use Rattle.std.specs.List.{All, fold, position, position_or_len}
 use Rattle.std.proofs.lemmas.Bool.Decides.{nat_tests}
-use Rattle.std.proofs.lemmas.List.{reverse-append}
+use Rattle.std.proofs.lemmas.List.{reverse-append, length-map, get_or-map}
 use Rattle.std.proofs.lemmas.List.Sums.{fold_push, prefix_len-le-length}
 use Rattle.std.proofs.lemmas.List.Recursion.{is_position_or_len}
 use Rattle.search_method.specs.declared.kinds.Pair.{Pair}
 use Rattle.search_method.specs.Pairs.{M, INF, unknown, seen, least, plain, endless, sum, first, others, pair_of, choice_of, limits_of, reached}
-use Rattle.search.specs.Numbers.{mine, theirs, plus, own_limit, other_limit, Small, AllSmall}
+use Rattle.search.specs.Numbers.{mine, theirs, plus, own_limit, other_limit, Small}
 
 abbrev pub zeros : Pair
 zeros = record { pn = 0; dn = 0 }
@@ -40,8 +40,7 @@ first_least (x ∷ xs) lt = here (eqb x (min x (least xs))) refl (first_least xs
         onto f (ih (omega arith))
 
 pub mine_length : (black : Bool) (ps : List Pair) → length (mine black ps) ≡ length ps
-mine_length black [] = refl
-mine_length black (p ∷ ps) = ap suc (mine_length black ps)
+mine_length black ps = simp length-map
 
 -- where no limit is reached, there is a move to choose
 pub below_limits : (black : Bool) (limit : Pair) (ps : List Pair) → (limit.pn ≤ INF) × (limit.dn ≤ INF)
@@ -117,15 +116,15 @@ seen_small : (black : Bool) (p : Pair) → Small p → (seen black p).dn ≤ INF
 seen_small true p h = h.1
 seen_small false p h = h.0
 
-own_le_sum : (black : Bool) (ps : List Pair) (k : ℕ) → AllSmall ps → k < length ps → sum (theirs black ps) < INF
+own_le_sum : (black : Bool) (ps : List Pair) (k : ℕ) → All Small ps → k < length ps → sum (theirs black ps) < INF
     → (seen black (get_or ps k zeros)).dn ≤ sum (theirs black ps)
 own_le_sum black [] k h lt below = absurd (omega arith)
 own_le_sum black (p ∷ ps) zero h lt below =
     rw (sum_more (seen black p).dn (theirs black ps))
-    (own_by (seen black p).dn (sum (theirs black ps)) (seen_small black p h.0) (rw (sum_more (seen black p).dn (theirs black ps)) at below))
+    (own_by (seen black p).dn (sum (theirs black ps)) (seen_small black p (h 0 p (omega arith))) (rw (sum_more (seen black p).dn (theirs black ps)) at below))
 own_le_sum black (p ∷ ps) (suc k) h lt below =
     let rest = rest_by (seen black p).dn (sum (theirs black ps)) (sum_small (theirs black ps)) (rw (sum_more (seen black p).dn (theirs black ps)) at below) in
-    let ih : (seen black (get_or ps k zeros)).dn ≤ sum (theirs black ps) = own_le_sum black ps k h.1 (omega arith) rest.0 in
+    let ih : (seen black (get_or ps k zeros)).dn ≤ sum (theirs black ps) = own_le_sum black ps k (λ i d l. h (suc i) d (omega arith)) (omega arith) rest.0 in
     let more : sum (theirs black ps) ≤ plus (seen black p).dn (sum (theirs black ps)) = rest.1 in
     rw (sum_more (seen black p).dn (theirs black ps)) (omega (arith, ih, more))
 
@@ -135,29 +134,24 @@ sum_below true limit ps h = grind (arith, nat_tests)
 sum_below false limit ps h = grind (arith, nat_tests)
 
 -- what the limit on the sum wants
-pub limits_fit : (black : Bool) (limit : Pair) (ps : List Pair) (k : ℕ) (lim own : Pair) (total : ℕ)
+pub limits_fit : (black : Bool) (limit : Pair) (ps : List Pair) (k : ℕ) {lim own : Pair} {total : ℕ}
     → lim ≡ seen black limit → own ≡ seen black (get_or ps k zeros) → total ≡ sum (theirs black ps)
-    → Small limit → reached limit (pair_of black ps) ≡ false → AllSmall ps → k < length ps
+    → Small limit → reached limit (pair_of black ps) ≡ false → All Small ps → k < length ps
     → (lim.dn ≤ INF) × (total ≤ lim.dn) × (own.dn ≤ total)
-limits_fit black limit ps k lim own total e f g cap below small lt =
+limits_fit black limit ps k e f g cap below small lt =
     let a : sum (theirs black ps) < (seen black limit).dn = sum_below black limit ps below in
     let b : (seen black limit).dn ≤ INF = seen_small black limit cap in
     let o : (seen black (get_or ps k zeros)).dn ≤ sum (theirs black ps) = own_le_sum black ps k small lt (omega arith) in
     rw (e, f, g) (b, omega arith, o)
 
-get_seen : (black : Bool) (ps : List Pair) (k : ℕ) → k < length ps → seen black (get_or ps k zeros) ≡ get_or (map (seen black) ps) k unknown
-get_seen black [] k lt = absurd (omega arith)
-get_seen black (p ∷ ps) zero lt = refl
-get_seen black (p ∷ ps) (suc k) lt = get_seen black ps k (omega arith)
-
 -- the limits of the chosen move
-pub limits_are : (black : Bool) (limit : Pair) (ps : List Pair) (k : ℕ) (lim own r : Pair) (pn dn second total : ℕ)
+pub limits_are : (black : Bool) (limit : Pair) (ps : List Pair) {k : ℕ} {lim own r : Pair} {pn dn second total : ℕ}
     → lim ≡ seen black limit → own ≡ seen black (get_or ps k zeros) → total ≡ sum (theirs black ps)
     → second ≡ least (others k (mine black ps)) → k ≡ choice_of black ps → k < length ps
     → pn ≡ own_limit lim.pn second → dn ≡ other_limit lim.dn total own.dn
     → r ≡ seen black (record { pn = pn; dn = dn }) → r ≡ limits_of black limit ps
-limits_are black limit ps k lim own r pn dn second total el eo et es ek lt ep ed er =
-    let fo : own ≡ get_or (map (seen black) ps) (choice_of black ps) unknown = eo ∙ (get_seen black ps k lt ∙ ap (λ n. get_or (map (seen black) ps) n unknown) ek) in
+limits_are black limit ps {k} {lim} {own} {r} {pn} {dn} {second} {total} el eo et es ek lt ep ed er =
+    let fo : own ≡ get_or (map (seen black) ps) (choice_of black ps) unknown = eo ∙ (sym (get_or-map (seen black) ps k zeros unknown lt) ∙ ap (λ n. get_or (map (seen black) ps) n unknown) ek) in
     let fs : second ≡ least (others (choice_of black ps) (mine black ps)) = es ∙ ap (λ n. least (others n (mine black ps))) ek in
     let fp : pn ≡ own_limit (seen black limit).pn (least (others (choice_of black ps) (mine black ps))) = ep ∙ ap₂ (λ (l : Pair) n. own_limit l.pn n) el fs in
     let fd : dn ≡ other_limit (seen black limit).dn (sum (theirs black ps)) (get_or (map (seen black) ps) (choice_of black ps) unknown).dn =

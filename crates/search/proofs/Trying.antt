@@ -1,9 +1,8 @@
 -- Simulation: what a line comes to by its step, and the moves that are tried.
-use Rattle.std.proofs.Common.{◌≡◌, ℕ, zero, suc, ◌+◌, ◌-◌, ◌<◌, ◌≤◌, Bool, true, false, cond, ◌&&◌, ltb, ◌∷◌, Some, None, Option, sym, refl, ap, ◌∙◌, subst, arith}
-use native.Mathlib.Nat.{sub-zero}
+use Rattle.std.proofs.Common.{◌≡◌, ℕ, zero, suc, ◌+◌, ◌-◌, ◌<◌, ◌≤◌, Bool, true, false, cond, ◌&&◌, ltb, ◌∷◌, Some, None, Option, sym, refl, ap, ◌∙◌, arith}
 use mathlib.Core.Bool.{beq}
-use Rattle.std.proofs.lemmas.Bool.Decides.{nat_tests}
-use Rattle.game.specs.Meaning.{Line, View, Meaning}
+use Rattle.game.specs.Meaning.{Line, Meaning}
+use Rattle.game.specs.Laws.{Bounded, Room}
 use Rattle.game.specs.Value.{black_moves}
 use Rattle.store.specs.Interface.{StoreMeaning}
 use Rattle.store.specs.declared.entry.Entry.{Entry}
@@ -13,11 +12,11 @@ use Rattle.search_method.specs.Search.{Part, give, either, played, every, decide
 use Rattle.search.specs.declared.searcher.Searcher.{Searcher}
 use Rattle.search.specs.declared.simulation.Step.{Step}
 use Rattle.search.specs.declared.simulation.Step.TheVariants.{Stop, One, All}
-use Rattle.search.specs.Moves.{Leaves}
-use Rattle.search.specs.Does.{At, Does}
+use Rattle.search.specs.Moves.{here, Leaves}
+use Rattle.search.specs.Does.{At, Reads}
 use Rattle.search.specs.Parts.{after, simulation, holding, all_holding}
 use Rattle.search.specs.Steps.{step_without, step_by, step_of, go_by}
-use Rattle.search.proofs.Doing.{less_left, stays, leaves_then, does_give, does_as, does_then, does_exhausted}
+use Rattle.search.proofs.Doing.{moves_left_lem, less_left, leaves_then, reads_give, reads_as, reads_then, reads_exhausted}
 
 -- what a step comes to, where `go` simulates one move on
 abbrev stepped : (ℕ → Part Bool) → Step → Part Bool
@@ -69,64 +68,60 @@ goes_by m floor l v (One k) = λ i. played (holds_at m floor (simulate m floor (
 goes_by m floor l v (All n) = λ i. every (λ k. holds_at m floor (simulate m floor (less_left m l k i) (k ∷ l) v) (k ∷ l) v) 0 n
 
 module _ {G S : Type 0} (means : G → Meaning) (line : G → Line) (𝓢 : StoreMeaning S) where
-  -- what `simulate` does, and what `try_move` does
-  pub simulates : (v : Bool) (o : Option Entry) (step : Step) {a b : Searcher G S} {r : Option Bool}
-      → 0 < moves_left (means a.game.now) (line a.game.now) → step ≡ step_of ((means a.game.now).view (line a.game.now)) v o
-      → Does means line 𝓢 (go_by v step) a r b → Does means line 𝓢 (simulation v o) a r b
-  simulates v o step {a} pos e h =
-      let m : Meaning = means a.game.now in
-      let l : Line = line a.game.now in
-      does_as (simulation v o) (go_by v step)
-      (simulate_more m a.floor (moves_left m l) l v o a.left pos
-      ∙ by_step m (λ q. holds_at m a.floor (simulate m a.floor (moves_left m l - 1) q v) q v) l v a.left o
-      ∙ (λ i. goes_by m a.floor l v (sym e i) i a.left)) h
-
+  -- what `try_move` does, and what is done of n moves from k on
   abbrev pub Tried : Bool → ℕ → Searcher G S → Option Bool → Searcher G S → Type 0
-  Tried v k a r b = Does means line 𝓢 (after k (holding v)) a r b
+  Tried v k a r b = Reads means line 𝓢 (after k (holding v)) a r b
 
-  -- the moves that are left to be tried
   abbrev pub Tries : Bool → ℕ → ℕ → Searcher G S → Option Bool → Searcher G S → Type 0
-  Tries v k n a r b = Does means line 𝓢 (all_holding v k n) a r b
+  Tries v k n a r b = Reads means line 𝓢 (all_holding v k n) a r b
 
   -- from a to b the moves before k were tried and hold: however the rest ends, so does the whole
   pub record Trying (v : Bool) (moves k : ℕ) (a b : Searcher G S) : Type 0 where
     pub leaves : Leaves means line a b
-    pub reads : b.store.now ≡ a.store.now
     pub rest : (r : Option Bool) (c : Searcher G S) → Tries v k (moves - k) b r c → Tries v 0 moves a r c
 
-  pub trying_none : (v : Bool) (moves : ℕ) (a : Searcher G S) → Trying v moves 0 a a
-  trying_none v moves a = record { leaves = stays a; reads = refl; rest = λ r c h. rw sub-zero at h }
+-- after the move k: what is left where it holds, and what the whole comes to where it does not
+abbrev onward : Bool → ℕ → ℕ → Bool → At Bool
+onward v k n held m floor l = either held (all_holding v k n m floor l) (give false)
 
-  -- the rest, where it begins with the move k
-  rest_from : (v : Bool) (moves k : ℕ) (a b : Searcher G S) → k < moves → Trying v moves k a b
-      → (r : Option Bool) (c : Searcher G S) → Tries v k (suc (moves - suc k)) b r c → Tries v 0 moves a r c
-  rest_from v moves k a b lt so_far r c h =
-      let e : moves - k ≡ suc (moves - suc k) = omega arith in
-      so_far.rest r c (rw e h)
+module _ {G S : Type 0} {means : G → Meaning} {line : G → Line} {𝓢 : StoreMeaning S} where
+  -- what `simulate` does, by what is done for its step
+  pub simulates : (v : Bool) (o : Option Entry) {step : Step} {a b : Searcher G S} {r : Option Bool}
+      → Bounded (means a.game.now) → Room (means a.game.now) (line a.game.now) → (here means line a).score ≡ None → step ≡ step_of (here means line a) v o
+      → Reads means line 𝓢 (go_by v step) a r b → Reads means line 𝓢 (simulation v o) a r b
+  simulates v o {step} {a} bounded room going e h =
+      let m : Meaning = means a.game.now in
+      let l : Line = line a.game.now in
+      reads_as (simulation v o) (go_by v step)
+      (simulate_more m a.floor (moves_left m l) l v o a.left (moves_left_lem m l bounded room going)
+      ∙ by_step m (λ q. holds_at m a.floor (simulate m a.floor (moves_left m l - 1) q v) q v) l v a.left o
+      ∙ (λ i. goes_by m a.floor l v (sym e i) i a.left)) h
 
-  -- after the move k: what is left where it holds, and what the whole comes to where it does not
-  abbrev onward : Bool → ℕ → ℕ → Bool → At Bool
-  onward v k n held m floor l = either held (all_holding v k n m floor l) (give false)
+  module _ {v : Bool} {moves k : ℕ} {a b : Searcher G S} where
+    -- the rest, where it begins with the move k
+    rest_from : k < moves → Trying means line 𝓢 v moves k a b
+        → (r : Option Bool) (c : Searcher G S) → Tries means line 𝓢 v k (suc (moves - suc k)) b r c → Tries means line 𝓢 v 0 moves a r c
+    rest_from lt so_far r c h =
+        let e : moves - k ≡ suc (moves - suc k) = omega arith in
+        so_far.rest r c (rw e h)
 
-  pub trying_more : (v : Bool) (moves k : ℕ) (a b c : Searcher G S) → k < moves → Trying v moves k a b
-      → Tried v k b (Some true) c → c.store.now ≡ b.store.now → Trying v moves (k + 1) a c
-  trying_more v moves k a b c lt so_far one reads =
-      let up : k + 1 ≡ suc k = omega arith in
-      record {
-        leaves = leaves_then so_far.leaves one.leaves;
-        reads = reads ∙ so_far.reads;
-        rest = λ r d h. rest_from v moves k a b lt so_far r d (does_then (after k (holding v)) (onward v (suc k) (moves - suc k)) one (rw up at h));
-      }
+    pub trying_more : {c : Searcher G S} → k < moves → Trying means line 𝓢 v moves k a b → Tried means line 𝓢 v k b (Some true) c → Trying means line 𝓢 v moves (k + 1) a c
+    trying_more lt so_far one =
+        let up : k + 1 ≡ suc k = omega arith in
+        record {
+          leaves = leaves_then so_far.leaves one.does.leaves;
+          rest = λ r d h. rest_from lt so_far r d (reads_then (after k (holding v)) (onward v (suc k) (moves - suc k)) one (rw up at h));
+        }
 
-  pub trying_fails : (v : Bool) (moves k : ℕ) (a b c : Searcher G S) → k < moves → Trying v moves k a b → Tried v k b (Some false) c → Tries v 0 moves a (Some false) c
-  trying_fails v moves k a b c lt so_far one =
-      rest_from v moves k a b lt so_far (Some false) c (does_then (after k (holding v)) (onward v (suc k) (moves - suc k)) one (does_give false c))
+    pub trying_fails : {c : Searcher G S} → k < moves → Trying means line 𝓢 v moves k a b → Tried means line 𝓢 v k b (Some false) c → Tries means line 𝓢 v 0 moves a (Some false) c
+    trying_fails {c} lt so_far one =
+        rest_from lt so_far (Some false) c (reads_then (after k (holding v)) (onward v (suc k) (moves - suc k)) one (reads_give false c))
 
-  pub trying_exhausted : (v : Bool) (moves k : ℕ) (a b c : Searcher G S) → k < moves → Trying v moves k a b → Tried v k b None c → Tries v 0 moves a None c
-  trying_exhausted v moves k a b c lt so_far one =
-      rest_from v moves k a b lt so_far None c (does_exhausted (after k (holding v)) (onward v (suc k) (moves - suc k)) one)
+    pub trying_exhausted : {c : Searcher G S} → k < moves → Trying means line 𝓢 v moves k a b → Tried means line 𝓢 v k b None c → Tries means line 𝓢 v 0 moves a None c
+    trying_exhausted {c} lt so_far one =
+        rest_from lt so_far None c (reads_exhausted (after k (holding v)) (onward v (suc k) (moves - suc k)) one)
 
-  pub trying_all : (v : Bool) (moves k : ℕ) (a b : Searcher G S) → moves ≤ k → Trying v moves k a b → Tries v 0 moves a (Some true) b
-  trying_all v moves k a b le so_far =
-      let e : moves - k ≡ 0 = omega arith in
-      so_far.rest (Some true) b (rw e (does_give true b))
+    pub trying_all : moves ≤ k → Trying means line 𝓢 v moves k a b → Tries means line 𝓢 v 0 moves a (Some true) b
+    trying_all le so_far =
+        let e : moves - k ≡ 0 = omega arith in
+        so_far.rest (Some true) b (rw e (reads_give true b))

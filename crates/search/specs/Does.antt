@@ -1,5 +1,5 @@
 -- What the code does of a part of the search: the store and the plays left, before and after.
-use Rattle.std.specs.Prelude.{ℕ, List, Some, None, Option}
+use Rattle.std.specs.Prelude.{◌≡◌, ℕ, List, Some, None, Option}
 use Rattle.game.specs.Meaning.{Line, Meaning}
 use Rattle.store.specs.Interface.{StoreMeaning}
 use Rattle.search_method.specs.Tree.{Runs}
@@ -25,3 +25,8 @@ At A = Meaning → ℕ → Line → Part A
 pub record Does {G S A : Type 0} (means : G → Meaning) (line : G → Line) (𝓢 : StoreMeaning S) (x : At A) (a : Searcher G S) (r : Option A) (b : Searcher G S) : Type 0 where
   pub leaves : Leaves means line a b
   pub runs : Runs 𝓢 (x (means a.game.now) a.floor (line a.game.now) a.left) a.store.now b.store.now (came r b.left)
+
+-- the same, and the store is only read
+pub record Reads {G S A : Type 0} (means : G → Meaning) (line : G → Line) (𝓢 : StoreMeaning S) (x : At A) (a : Searcher G S) (r : Option A) (b : Searcher G S) : Type 0 where
+  pub does : Does means line 𝓢 x a r b
+  pub same : b.store.now ≡ a.store.now

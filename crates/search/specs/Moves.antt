@@ -1,6 +1,6 @@
 -- What a searcher does between two parts of the search, and what every part keeps.
 use Rattle.std.specs.Prelude.{◌≡◌, ℕ, ◌+◌, ◌≤◌, ◌∷◌, Some, None, Option}
-use Rattle.game.specs.Meaning.{Line, Meaning}
+use Rattle.game.specs.Meaning.{Line, View, Meaning}
 use Rattle.game.specs.Refusals.{shorter}
 use Rattle.game.specs.Kept.{Kept}
 use Rattle.store.specs.Interface.{StoreMeaning}
@@ -19,6 +19,10 @@ pub record Notes {G S : Type 0} (𝓢 : StoreMeaning S) (e : Entry) (a b : Searc
   pub game : b.game.now ≡ a.game.now
   pub left : b.left ≡ a.left
   pub records : 𝓢.records a.store.now e b.store.now
+
+-- what the game tells of the line where a searcher stands
+abbrev pub here : {G S : Type 0} → (G → Meaning) → (G → Line) → Searcher G S → View
+here means line a = (means a.game.now).view (line a.game.now)
 
 module _ {G S : Type 0} (means : G → Meaning) (line : G → Line) where
   -- from a to b the move k has been played and counted

@@ -1,5 +1,5 @@
 -- The numbers of a line's moves as the side on turn sees them, and how large they are.
-use Rattle.std.specs.Prelude.{ℕ, ◌+◌, ◌-◌, ◌<◌, ◌≤◌, min, Bool, true, false, cond, ◌||◌, List, [], ◌∷◌, map, Some, None, Option, ◌==◌}
+use Rattle.std.specs.Prelude.{ℕ, ◌+◌, ◌-◌, ◌<◌, ◌≤◌, min, Bool, true, false, cond, ◌||◌, List, map, Some, None, Option, ◌==◌}
 use Rattle.store.specs.declared.entry.Finding.{Finding}
 use Rattle.store.specs.declared.entry.Finding.TheVariants.{Verdict, Open}
 use Rattle.search_method.specs.declared.kinds.Pair.{Pair}
@@ -32,10 +32,6 @@ finding_of black independent ps =
 -- numbers up to INF
 abbrev pub Small : Pair → Type 0
 Small p = (p.pn ≤ INF) × (p.dn ≤ INF)
-
-abbrev pub AllSmall : List Pair → Type 0
-AllSmall [] = Unit {0}
-AllSmall (p ∷ ps) = Small p × AllSmall ps
 
 -- an answer has cost a play
 abbrev pub Costs : {A : Type 0} → Option A → ℕ → ℕ → Type 0

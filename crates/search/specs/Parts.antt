@@ -1,5 +1,5 @@
 -- The parts of the search at any line of any game and for any floor, in the words of its definition.
-use Rattle.std.specs.Prelude.{ℕ, ◌-◌, Bool, List, ◌∷◌, Some, Option}
+use Rattle.std.specs.Prelude.{ℕ, ◌-◌, Bool, List, ◌∷◌, Option}
 use Rattle.store.specs.declared.entry.Entry.{Entry}
 use Rattle.search_method.specs.declared.kinds.Pair.{Pair}
 use Rattle.search_method.specs.declared.kinds.Worked.{Worked}

@@ -2,10 +2,12 @@
 //
 // The facts about a limit stand in the contracts: the caller of the search may make a `LineRecord` of any numbers.
 ghost use Rattle.std.specs.Prelude.{◌≡◌, ℕ, ◌-◌, ◌*◌, ◌<◌, ◌≤◌, length};
+ghost use Rattle.std.specs.List.{All};
 ghost use Rattle.search_method.specs.Search.{moves_left};
+ghost use Rattle.search.specs.Moves.{here};
 ghost use Rattle.search.specs.Does.{Does};
 ghost use Rattle.search.specs.Parts.{after, expanding, turning};
-ghost use Rattle.search.specs.Numbers.{Small, AllSmall, Costs};
+ghost use Rattle.search.specs.Numbers.{Small, Costs};
 ghost use Rattle.search.specs.Lines.{record_of};
 
 use crate::memory::LineRecord;
@@ -84,8 +86,8 @@ impl<G: Bounded, S: Store> Searcher<'_, G, S> {
         requires told { line.now ≡ record_of (G.Game.means self.old.game.now) self.old.floor (G.Game.line self.old.game.now) line.now.limit }
         requires records { 96 - length (G.Game.line self.old.game.now) ≤ length deeper.old }
         requires room { 64 * (96 - length (G.Game.line self.old.game.now)) ≤ length rest.old }
-        requires all { length pairs.old ≡ ((G.Game.means self.old.game.now).view (G.Game.line self.old.game.now)).moves }
-        requires small { AllSmall pairs.old }
+        requires all { length pairs.old ≡ (here G.Game.means G.Game.line self.old).moves }
+        requires small { All Small pairs.old }
         requires capped { Small line.now.limit }
         ensures { (f : ℕ) → self.old.left < f → Does G.Game.means G.Game.line S.Store.store (turning f line.now.limit pairs.old) self.old result self.new }
     {
@@ -125,7 +127,7 @@ impl<G: Bounded, S: Store> Searcher<'_, G, S> {
         lines: &mut [LineRecord],
         moves: &mut [Pair],
     ) -> Option<Worked>
-        requires legal { k < ((G.Game.means self.old.game.now).view (G.Game.line self.old.game.now)).moves }
+        requires legal { k < (here G.Game.means G.Game.line self.old).moves }
         requires records { 96 - length (G.Game.line self.old.game.now) ≤ length lines.old }
         requires room { 64 * (96 - length (G.Game.line self.old.game.now)) ≤ length moves.old }
         requires capped { Small limit }

@@ -1,7 +1,8 @@
 // Proof and disproof numbers: the pair of a line from those of its moves, the move to expand next and its limits.
 ghost use Rattle.std.specs.Prelude.{◌≡◌, ℕ, ◌+◌, ◌<◌, ◌≤◌, ◌==◌, false, length, position};
-ghost use Rattle.search.specs.Numbers.{mine, theirs, plus, own_limit, other_limit, finding_of, Small, AllSmall};
-ghost use Rattle.search_method.specs.Pairs.{settled, unknown, in_range, seen, least, sum, first, others, pair_of, choice_of, limits_of, reached};
+ghost use Rattle.std.specs.List.{All};
+ghost use Rattle.search.specs.Numbers.{mine, theirs, plus, own_limit, other_limit, finding_of, Small};
+ghost use Rattle.search_method.specs.Pairs.{settled, in_range, seen, least, sum, first, others, pair_of, choice_of, limits_of, reached};
 
 use search_method::kinds::Pair;
 use store::entry::Finding;
@@ -13,11 +14,7 @@ pub(crate) const INF: u32 = 1_048_576;
 pub(crate) const MOST: u32 = 1_048_575;
 
 // The pair of a move of which nothing is known.
-pub(crate) fn unknown_pair() -> Pair
-    ensures { result ≡ unknown }
-{
-    Pair { pn: 1, dn: 1 }
-}
+pub(crate) const UNKNOWN: Pair = Pair { pn: 1, dn: 1 };
 
 // The pair of a verdict.
 pub(crate) fn verdict_pair(yes: bool) -> Pair
@@ -37,18 +34,7 @@ pub(crate) fn open_pair(pn: u32, dn: u32) -> Pair
     if (1..=MOST).contains(&pn) && (1..=MOST).contains(&dn) {
         Pair { pn, dn }
     } else {
-        unknown_pair()
-    }
-}
-
-// A pair as the side on turn sees it, and back: for White the two numbers trade roles.
-fn facing(black: bool, p: Pair) -> Pair
-    ensures { result ≡ seen black p }
-{
-    if black {
-        p
-    } else {
-        Pair { pn: p.dn, dn: p.pn }
+        UNKNOWN
     }
 }
 
@@ -95,13 +81,27 @@ pub(crate) struct Row<'a> {
 }
 
 impl Row<'_> {
+    // A pair as the side on turn sees it, and back: for White the two numbers trade roles.
+    fn seen(&self, pair: Pair) -> Pair
+        ensures { result ≡ seen self.now.black pair }
+    {
+        if self.black {
+            pair
+        } else {
+            Pair {
+                pn: pair.dn,
+                dn: pair.pn,
+            }
+        }
+    }
+
     fn least(&self) -> u32
         ensures { result ≡ least (mine self.now.black self.now.pairs.now) }
     {
         self.pairs
             .iter()
             .rev()
-            .fold(INF, |n, p| facing(self.black, *p).pn.min(n))
+            .fold(INF, |n, p| self.seen(*p).pn.min(n))
     }
 
     fn total(&self) -> u32
@@ -110,16 +110,14 @@ impl Row<'_> {
         self.pairs
             .iter()
             .rev()
-            .fold(0, |n, p| add(facing(self.black, *p).dn, n))
+            .fold(0, |n, p| add(self.seen(*p).dn, n))
     }
 
     // The first move with this number.
     fn position_of(&self, x: u32) -> Option<usize>
         ensures { result ≡ position (λ p. (seen self.now.black p).pn == x) self.now.pairs.now }
     {
-        self.pairs
-            .iter()
-            .position(|p| facing(self.black, *p).pn == x)
+        self.pairs.iter().position(|p| self.seen(*p).pn == x)
     }
 
     // The same, or the number of moves.
@@ -134,13 +132,10 @@ impl Row<'_> {
     pub(crate) fn pair(&self) -> Pair
         ensures { result ≡ pair_of self.now.black self.now.pairs.now }
     {
-        facing(
-            self.black,
-            Pair {
-                pn: self.least(),
-                dn: self.total(),
-            },
-        )
+        self.seen(Pair {
+            pn: self.least(),
+            dn: self.total(),
+        })
     }
 
     // The move to expand next: the first with the least number.
@@ -175,15 +170,15 @@ impl Row<'_> {
         requires within { k < length self.now.pairs.now }
         requires capped { Small limit }
         requires below { reached limit (pair_of self.now.black self.now.pairs.now) ≡ false }
-        requires small { AllSmall self.now.pairs.now }
+        requires small { All Small self.now.pairs.now }
         ensures is { result ≡ limits_of self.now.black limit self.now.pairs.now }
         ensures capped { Small result }
     {
-        let lim = facing(self.black, limit);
-        let own = facing(self.black, self.pairs[k]);
+        let lim = self.seen(limit);
+        let own = self.seen(self.pairs[k]);
         let pn = own_limit(lim.pn, self.second(k));
         let dn = other_limit(lim.dn, self.total(), own.dn);
-        facing(self.black, Pair { pn, dn })
+        self.seen(Pair { pn, dn })
     }
 
     // What is said of a line that is left.

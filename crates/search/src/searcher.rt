@@ -1,7 +1,7 @@
 // What searches: it reads the game and the store, plays and takes back, and counts the plays.
 ghost use Rattle.std.specs.Prelude.{◌≡◌, ℕ, ◌<◌};
 ghost use Rattle.search_method.specs.Search.{key};
-ghost use Rattle.search.specs.Moves.{Plays, TakesBack, Notes};
+ghost use Rattle.search.specs.Moves.{here, Plays, TakesBack, Notes};
 
 use game::interface::Bounded;
 use store::entry::{Entry, Finding, Key};
@@ -31,7 +31,7 @@ impl<G: Bounded, S: Store> Searcher<'_, G, S> {
 
     // A legal move is played and counted. None where no play is left.
     pub(crate) fn play(&mut self, k: u32) -> Option<()>
-        requires legal { k < ((G.Game.means self.old.game.now).view (G.Game.line self.old.game.now)).moves }
+        requires legal { k < (here G.Game.means G.Game.line self.old).moves }
         ensures { Plays G.Game.means G.Game.line k self.old result self.new }
     {
         self.left = self.left.checked_sub(1)?;

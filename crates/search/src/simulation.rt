@@ -1,6 +1,7 @@
 // Simulation: does a verdict that was found by another path hold here as well?
 ghost use Rattle.std.specs.Prelude.{◌≡◌, ℕ, ◌<◌, None};
-ghost use Rattle.search.specs.Does.{Does};
+ghost use Rattle.search.specs.Moves.{here};
+ghost use Rattle.search.specs.Does.{Reads};
 ghost use Rattle.search.specs.Parts.{after, simulation, holding, all_holding};
 ghost use Rattle.search.specs.Steps.{step_of};
 
@@ -32,7 +33,7 @@ impl<G: Bounded, S: Store> Searcher<'_, G, S> {
 
     // What to do at a line that is not over, by what is known of it.
     fn step(&self, yes: bool, found: Option<Entry>) -> Step
-        ensures { result ≡ step_of ((G.Game.means self.now.game.now).view (G.Game.line self.now.game.now)) yes found }
+        ensures { result ≡ step_of (here G.Game.means G.Game.line self.now) yes found }
     {
         let claims = self.claim(yes).claims(self.game.turn());
         if let Some(
@@ -63,8 +64,7 @@ impl<G: Bounded, S: Store> Searcher<'_, G, S> {
     // Does the verdict hold at the game's line? By its score, or by what the store shows. None where no play is left.
     #[cycle(simulation)]
     fn holds_now(&mut self, yes: bool) -> Option<bool>
-        ensures does { Does G.Game.means G.Game.line S.Store.store (holding yes) self.old result self.new }
-        ensures reads { self.new.store.now ≡ self.old.store.now }
+        ensures { Reads G.Game.means G.Game.line S.Store.store (holding yes) self.old result self.new }
     {
         if let Some(score) = self.game.score() {
             return Some(self.claim(yes).given_by(score));
@@ -78,9 +78,8 @@ impl<G: Bounded, S: Store> Searcher<'_, G, S> {
     // way out.
     #[cycle(simulation)]
     pub(crate) fn simulate(&mut self, yes: bool, found: Option<Entry>) -> Option<bool>
-        requires going { ((G.Game.means self.old.game.now).view (G.Game.line self.old.game.now)).score ≡ None }
-        ensures does { Does G.Game.means G.Game.line S.Store.store (simulation yes found) self.old result self.new }
-        ensures reads { self.new.store.now ≡ self.old.store.now }
+        requires going { (here G.Game.means G.Game.line self.old).score ≡ None }
+        ensures { Reads G.Game.means G.Game.line S.Store.store (simulation yes found) self.old result self.new }
     {
         match self.step(yes, found) {
             Step::Stop(held) => Some(held),
@@ -92,9 +91,8 @@ impl<G: Bounded, S: Store> Searcher<'_, G, S> {
     // One move is played, simulated and taken back.
     #[cycle(simulation)]
     fn try_move(&mut self, yes: bool, k: u32) -> Option<bool>
-        requires legal { k < ((G.Game.means self.old.game.now).view (G.Game.line self.old.game.now)).moves }
-        ensures does { Does G.Game.means G.Game.line S.Store.store (after k (holding yes)) self.old result self.new }
-        ensures reads { self.new.store.now ≡ self.old.store.now }
+        requires legal { k < (here G.Game.means G.Game.line self.old).moves }
+        ensures { Reads G.Game.means G.Game.line S.Store.store (after k (holding yes)) self.old result self.new }
     {
         self.play(k)?;
         let held = self.holds_now(yes);
@@ -105,9 +103,8 @@ impl<G: Bounded, S: Store> Searcher<'_, G, S> {
     // Every move in order, until one does not hold.
     #[cycle(simulation)]
     fn try_all(&mut self, yes: bool, moves: u32) -> Option<bool>
-        requires all { moves ≡ ((G.Game.means self.old.game.now).view (G.Game.line self.old.game.now)).moves }
-        ensures does { Does G.Game.means G.Game.line S.Store.store (all_holding yes 0 moves) self.old result self.new }
-        ensures reads { self.new.store.now ≡ self.old.store.now }
+        requires all { moves ≡ (here G.Game.means G.Game.line self.old).moves }
+        ensures { Reads G.Game.means G.Game.line S.Store.store (all_holding yes 0 moves) self.old result self.new }
     {
         for k in 0..moves {
             if !self.try_move(yes, k)? {

@@ -13,6 +13,7 @@ mod tests {
     use search::memory::LineRecord;
     use search::solve::solve;
     use search_method::kinds::{Answer, Pair};
+    use search_method::memory::WorkMemory;
     use std::test::Fail;
     use store::entry::{Entry, Key};
     use store::interface::Store;
@@ -85,10 +86,11 @@ mod tests {
     ) -> (u8, u8, u32) {
         let mut records = [stale(3); 97];
         let mut pairs = [Pair { pn: 9, dn: 0 }; 6208];
-        let records = &mut records[0..lines.min(97)];
-        let pairs = &mut pairs[0..moves.min(6208)];
-        match solve(game, store, floor, budget, records, pairs) {
-            Ok(Answer::Solved { yes, best, count }) => (if yes { 1 } else { 0 }, best, count),
+        let lines = &mut records[0..lines.min(97)];
+        let moves = &mut pairs[0..moves.min(6208)];
+        let mut memory = WorkMemory { lines, moves };
+        match solve(game, store, floor, budget, &mut memory) {
+            Ok(Answer::Solved { yes, best, count }) => (u8::from(yes), best, count),
             Ok(Answer::OutOfBudget { count }) => (2, 0, count),
             Err(e) => (e.number(), 0, 0),
         }
@@ -154,14 +156,20 @@ mod tests {
     // Seven searches, one after another, over a table of these slots.
     fn seven(slots: &mut [Option<Entry>]) -> Result<[(u8, u8, u32); 7], PositionRefusal> {
         let mut table = Table::new(slots);
+        let asked: [(&[u32], u32, u32); 7] = [
+            (&[], 2, 1000),
+            (&[], 2, 1000),
+            (&[0, 0], 2, 1000),
+            (&[1, 0], 2, 1000),
+            (&[], 1, 1000),
+            (&[], 1, 5),
+            (&[], 1, 1000),
+        ];
         let mut answers = [(0, 0, 0); 7];
-        answers[0] = answered(&mut fork_at(10, &[])?, &mut table, 2, 1000, 97, 6208);
-        answers[1] = answered(&mut fork_at(10, &[])?, &mut table, 2, 1000, 97, 6208);
-        answers[2] = answered(&mut fork_at(10, &[0, 0])?, &mut table, 2, 1000, 97, 6208);
-        answers[3] = answered(&mut fork_at(10, &[1, 0])?, &mut table, 2, 1000, 97, 6208);
-        answers[4] = answered(&mut fork_at(10, &[])?, &mut table, 1, 1000, 97, 6208);
-        answers[5] = answered(&mut fork_at(10, &[])?, &mut table, 1, 5, 97, 6208);
-        answers[6] = answered(&mut fork_at(10, &[])?, &mut table, 1, 1000, 97, 6208);
+        for (answer, (moves, floor, budget)) in answers.iter_mut().zip(asked) {
+            let mut game = fork_at(10, moves)?;
+            *answer = answered(&mut game, &mut table, floor, budget, 97, 6208);
+        }
         Ok(answers)
     }
 

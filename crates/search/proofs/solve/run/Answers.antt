@@ -3,6 +3,4 @@ use Rattle.search.proofs.Expanding.{solve_expands}
 use Rattle.search.proofs.solve.run.Goals as goal
 
 pub returns-clause-runs : goal.returns-clause-runs
-returns-clause-runs g c =
-    solve_expands g.G.Game.means g.G.Game.line g.S.Store.store c.args.budget c.expand-found.result _ c.expand-found.new.self c.answer_of.result (sym c.in_default.ensures) refl c.expand-found.ensures c.answer_of.ensures.is _
-    (search rules)
+returns-clause-runs g c = solve_expands c.args.budget (sym c.in_default.ensures) refl c.expand-found.ensures c.answer_of.ensures.is (search rules)

@@ -1,4 +1,4 @@
-use Rattle.std.proofs.Common.{◌≡◌, suc, ◌+◌, min, length, take, drop, ap, ◌∙◌, ap₂, arith}
+use Rattle.std.proofs.Common.{◌≡◌, suc, ◌+◌, min, length, drop, ap, ◌∙◌, ap₂, arith}
 use Rattle.std.proofs.lemmas.Slice.{between_to_end}
 use Rattle.search_method.specs.Pairs.{least}
 use Rattle.search.specs.Numbers.{mine}
