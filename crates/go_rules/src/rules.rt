@@ -79,7 +79,8 @@ impl<'a> Mover<'a> {
     {
         let mine = with_stone(self.own, p);
         let free = free_points(self.board, mine, self.foe);
-        has_point(living_stones(self.board, mine, free), p) || living_stones(self.board, self.foe, free) != self.before
+        has_point(living_stones(self.board, mine, free), p)
+            || living_stones(self.board, self.foe, free) != self.before
     }
 
     // Whether p is a legal move.
