@@ -59,28 +59,11 @@ impl AtariGo {
         ensures answer { refused_at result ≡ read_fault text.now }
         ensures made { elim result [ Ok g ↦ (atari_go g.board.n g.history.start ≡ game_of text.now) × (line_of g.history ≡ []) | Err e ↦ Unit {0} ] }
     {
-        let opening = read_position(text)?;
-        Ok(AtariGo::opened(opening))
-    }
-
-    // The game at the empty line.
-    fn opened(opening: Opening) -> AtariGo
-        requires { Position opening.board.n opening.place }
-        ensures board { result.board.n ≡ opening.board.n }
-        ensures start { result.history.start ≡ opening.place }
-        ensures line { line_of result.history ≡ [] }
-    {
-        AtariGo {
-            board: opening.board,
-            history: History::new(opening.place),
-        }
-    }
-
-    // The empty points at the start, as many as the moves of a longest line may be.
-    fn room(&self) -> u32
-        ensures { BoundedBy (atari_go self.now.board.n self.now.history.start) result }
-    {
-        u32::from(empty_count(&self.board, self.history.start()))
+        let Opening { board, place } = read_position(text)?;
+        Ok(AtariGo {
+            board,
+            history: History::new(place),
+        })
     }
 
     // The position of the present line.
@@ -181,7 +164,8 @@ impl Bounded for AtariGo {
 
     ghost room = { λ s. walked_room s.board.n s.board.high s.history.start s.good (line_of s.history) s.legal };
 
+    // The empty points at the start, as many as the moves of a longest line may be.
     fn height(&self) -> u32 {
-        self.room()
+        u32::from(empty_count(&self.board, self.history.start()))
     }
 }

@@ -2,6 +2,7 @@
 ghost use Rattle.graph_rules.specs.Theorems.{AllowedExactly, FirstBadNode, GraphsLawful};
 
 // No fault is found in exactly the rows of nodes that the rules allow.
+#[tactic(auto, using(crate::proofs::Allowed::fault_allowed, crate::proofs::Allowed::allowed_fault))]
 pub fn allowed_exactly()
     ensures { AllowedExactly }
 {}
@@ -12,6 +13,7 @@ pub fn first_bad_node()
 {}
 
 // The game on every graph keeps the laws of a game.
+#[tactic(auto, using(crate::proofs::Graphs::graph_lawful, crate::proofs::Allowed::allowed_fault))]
 pub fn graphs_lawful()
     ensures { GraphsLawful }
 {}

@@ -2,7 +2,7 @@ use Rattle.std.proofs.Common.{sym, ap, ◌∙◌, subst}
 use Rattle.game.specs.Laws.{BoundedBy}
 use Rattle.go_rules.specs.Play.{atari_go, empty_ones}
 use Rattle.go_rules.proofs.Laws.{placed_of, go_bounded}
-use Rattle.atari_go.proofs.atari.AtariGo.room.Goals as goal
+use Rattle.atari_go.proofs.atari.AtariGoBounded.height.Goals as goal
 
 pub returns : goal.returns
 returns c =
