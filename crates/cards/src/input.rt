@@ -1,4 +1,4 @@
-// The input as bytes, and its lines.
+// The input as bytes.
 use std::io::Read;
 use std::{fs, io};
 
@@ -14,21 +14,7 @@ pub(crate) fn all_bytes(rt: &HostRuntime, file: &Option<String>) -> io::Result<V
     }
 }
 
-// The first line, and what follows its newline.
-pub(crate) fn cut_line(text: &[u8]) -> (&[u8], &[u8]) {
-    for i in 0..text.len() {
-        if text[i] == b'\n' {
-            return (&text[0..i], &text[i + 1..]);
-        }
-    }
-    (text, &[])
-}
-
-// A line without the carriage return at its end.
-pub(crate) fn without_return(line: &[u8]) -> &[u8] {
-    let n = line.len();
-    if n > 0 && line[n - 1] == b'\r' {
-        return &line[0..n - 1];
-    }
-    line
+// The bytes of a file; none where its name is no text or it cannot be read.
+pub(crate) fn file_bytes(rt: &HostRuntime, name: &[u8]) -> Option<Vec<u8>> {
+    fs::read(rt, std::str::from_utf8(name).ok()?).ok()
 }

@@ -17,21 +17,14 @@ pub(crate) fn read_options(rt: &HostRuntime) -> io::Result<Options> {
         out: None,
         file: None,
     };
-    let mut wants_folder = false;
-    let mut program = true;
-    for word in env::args(rt)? {
-        if program {
-            program = false;
-        } else if wants_folder {
-            wants_folder = false;
-            found.out = Some(word);
-        } else {
-            match word.as_str() {
-                "--quiet" => found.quiet = true,
-                "--help" => found.help = true,
-                "--out" => wants_folder = true,
-                _ => found.file = Some(word),
-            }
+    let mut words = env::args(rt)?;
+    let _program = words.next();
+    while let Some(word) = words.next() {
+        match word.as_str() {
+            "--quiet" => found.quiet = true,
+            "--help" => found.help = true,
+            "--out" => found.out = words.next().or(found.out),
+            _ => found.file = Some(word),
         }
     }
     Ok(found)
