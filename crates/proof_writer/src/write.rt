@@ -47,10 +47,10 @@ fn put_answer<G: Bounded, S: Store>(
         return Err(WriteRefusal::OutOfBudget);
     };
     let mut writer = Writer {
-        game: &mut *game,
-        store: &mut *store,
-        memory: &mut *memory,
-        out: &mut *out,
+        game,
+        store,
+        memory,
+        out,
         claim: Claim { floor, yes },
     };
     let start = State {
