@@ -10,26 +10,6 @@ use Rattle.proof_method.specs.Theorems.{Proof, AcceptsProofs, ClaimsTrue}
 use Rattle.proof_method.proofs.Walk.{bytes_after, walk_sound, walk_complete}
 use Rattle.proof_method.proofs.Strategy.{strategy_true}
 
--- the tests of the two first numbers
-one_or_two : (n : ℕ) → eqb n 1 || eqb n 2 ≡ true → (1 ≤ n) × (n ≤ 2)
-one_or_two n e = by (eqb n 1) refl (eqb n 2) refl e
-  where
-    by : (s : Bool) → eqb n 1 ≡ s → (t : Bool) → eqb n 2 ≡ t → s || t ≡ true → (1 ≤ n) × (n ≤ 2)
-    by true x t y z = let q = eqb→eq n 1 (subst T (sym x) tt) in omega arith
-    by false x true y z = let q = eqb→eq n 2 (subst T (sym y) tt) in omega arith
-    by false x false y z = absurd (false≢true z)
-
-pub floor_passes : (n : ℕ) → 1 ≤ n → n ≤ 2 → eqb n 1 || eqb n 2 ≡ true
-floor_passes zero low high = absurd (omega arith)
-floor_passes (suc zero) low high = refl
-floor_passes (suc (suc zero)) low high = refl
-floor_passes (suc (suc (suc n))) low high = absurd (omega arith)
-
-bit_of : (x : ℕ) → ltb x 2 ≡ true → bit (eqb x 1) ≡ x
-bit_of zero e = refl
-bit_of (suc zero) e = refl
-bit_of (suc (suc x)) e = absurd (omega (arith, lt_of (suc (suc x)) 2 e))
-
 module _ (m : Meaning) (l : Line) (bytes : List ℕ) (budget : ℕ) where
   -- what is accepted is a proof that the budget covers
   abbrev Right : Checked → Type 0
@@ -65,8 +45,9 @@ module _ (m : Meaning) (l : Line) (bytes : List ℕ) (budget : ℕ) where
       by : (t : Bool) → ltb x 2 ≡ t → Right (cond t (claim m l bytes budget floor (eqb x 1) after) (faulty (fault (length bytes) 10 0 rest 0)))
       by false y = tt
       by true y =
+          let same : x ≡ bit (eqb x 1) = grind arith in
           claim_sound floor (eqb x 1) after low high (bytes_after (encode x) after (subst Bytes here ok))
-          (form ∙ ap (λ (w : List ℕ). encode floor ++ w) (here ∙ ap (λ (w : ℕ). encode w ++ after) (sym (bit_of x y))))
+          (form ∙ ap (λ (w : List ℕ). encode floor ++ w) (here ∙ ap (λ (w : ℕ). encode w ++ after) same))
           (walk (length bytes) m floor (eqb x 1) (suc budget) 0 l after budget) refl
 
   floor_sound : Bytes bytes → (x : Read) → read bytes ≡ x → Right (by_floor m l bytes budget x)
@@ -80,8 +61,7 @@ module _ (m : Meaning) (l : Line) (bytes : List ℕ) (budget : ℕ) where
           Right (cond t (by_verdict m l bytes budget floor after (read after)) (faulty (fault (length bytes) 10 0 bytes 0)))
       by false y = tt
       by true y =
-          verdict_sound floor after (one_or_two floor y).0 (one_or_two floor y).1
-          (bytes_after (encode floor) after (subst Bytes here ok)) here (read after) refl
+          verdict_sound floor after (grind arith) (grind arith) (bytes_after (encode floor) after (subst Bytes here ok)) here (read after) refl
 
   check_sound : Bytes bytes → Right (check m l bytes budget)
   unfolding check
@@ -91,31 +71,15 @@ module _ (m : Meaning) (l : Line) (bytes : List ℕ) (budget : ℕ) where
       Proof m l bytes floor v p → p ≤ budget → check m l bytes budget ≡ accepted floor v (length bytes) p
   unfolding check
   check_complete floor p v few r proof enough =
-      ap (λ (x : List ℕ). by_floor m l bytes budget (read x)) proof.form
-      ∙ ap (by_floor m l bytes budget) (read_back floor later_bytes (omega (arith, proof.high)))
-      ∙ ap (λ (t : Bool). cond t (by_verdict m l bytes budget floor later_bytes (read later_bytes)) (faulty (fault (length bytes) 10 0 bytes 0)))
-      (floor_passes floor proof.low proof.high)
-      ∙ ap (by_verdict m l bytes budget floor later_bytes) (read_back (bit v) moves (small v))
-      ∙ bits v
-      ∙ ap (λ (x : List ℕ). claim m l bytes budget floor v x) (sym (append-nil moves))
-      ∙ ap (finish (length bytes) budget floor v)
-      (walk_complete (length bytes) m floor v few (suc budget) 0 l r proof.strategy [] budget (budget - p) proof.wins
-      (omega (arith, proof.cost)) (omega arith))
-      ∙ ap (accepted floor v (length bytes)) (omega arith)
-    where
-      moves : List ℕ
-      moves = written proof.strategy
-
-      later_bytes : List ℕ
-      later_bytes = encode (bit v) ++ moves
-
-      small : (w : Bool) → bit w < 2 ^ 32
-      small true = omega arith
-      small false = omega arith
-
-      bits : (w : Bool) → by_verdict m l bytes budget floor later_bytes (number (bit w) moves) ≡ claim m l bytes budget floor w moves
-      bits true = refl
-      bits false = refl
+      let moves = written proof.strategy in
+      let small : bit v < 2 ^ 32 = grind arith in
+      let floor_is = read_back floor (encode (bit v) ++ moves) (omega (arith, proof.high)) in
+      let verdict_is = read_back (bit v) moves small in
+      let none = append-nil moves in
+      let walked =
+      walk_complete (length bytes) m floor v few (suc budget) 0 l r proof.strategy [] budget (budget - p) proof.wins
+      (omega (arith, proof.cost)) (omega arith) in
+      grind arith
 
 pub accepts_proofs : AcceptsProofs
 accepts_proofs =

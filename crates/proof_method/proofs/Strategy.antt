@@ -5,7 +5,7 @@ use Rattle.game.specs.Laws.{Lawful, BoundedBy}
 use Rattle.game.specs.Value.{black_moves, value, at_least}
 use Rattle.game.proofs.Value.{value_over, value_step, one_settles, all_settle}
 use Rattle.proof_method.specs.Strategy.{Strategy, over, move, replies, Wins}
-use Rattle.proof_method.proofs.Bools.{not_not}
+use Rattle.std.proofs.Math.Bool.{not-not}
 
 module _ (m : Meaning) (H : ℕ) (lawful : Lawful m) (law : BoundedBy m H) (floor : ℕ) (low : 1 ≤ floor) (high : floor ≤ 2) (v : Bool) where
   pub strategy_true : (l : Line) → Reachable m l → (s : Strategy) → Wins m floor v l s → at_least m H floor l ≡ v
@@ -22,4 +22,4 @@ module _ (m : Meaning) (H : ℕ) (lawful : Lawful m) (law : BoundedBy m H) (floo
       ∙ other
     where
       other : not (black_moves (m.view l)) ≡ v
-      other = ap not w.1 ∙ not_not v
+      other = ap not w.1 ∙ not-not v

@@ -18,8 +18,9 @@ use Rattle.search_method.proofs.Truth.{verdicts_true}
 use Rattle.proof_method.specs.Strategy.{Strategy, over, move, replies, join, written, total, plays, Wins, bit, file}
 use Rattle.proof_method.specs.Write.{Put, put, failed, Part, next, choose, played, number, each, own, by_answer, solved, at_line, walk, first, start, Written, proof, unwritten, end, after_solve, write_by}
 use Rattle.proof_method.specs.Writing.{WritesProofs, ClaimFound, NoStray}
-use Rattle.proof_method.proofs.Bools.{beq_same, beq_other, not_not}
-use Rattle.proof_method.proofs.Walk.{first_then}
+use Rattle.std.proofs.Math.Bool.{not-not}
+use Rattle.proof_method.proofs.Bools.{beq_same, beq_other}
+use Rattle.proof_method.proofs.Walk.{first_then, wins_then}
 use Rattle.proof_method.proofs.Accepting.{accepts_proofs}
 
 -- the runs of the parts of a run
@@ -146,7 +147,7 @@ module _ {S : Type 0} (𝓢 : StoreMeaning S) (m : Meaning) (H : ℕ) (lawful : 
           joined mid c q (put after left) a =
               record {
                 strategies = first_then q.strategy a.strategies;
-                win = win;
+                win = wins_then m floor v l k r q.strategy a.strategies q.wins a.win;
                 form =
                     a.form
                     ∙ ap (λ (y : List ℕ). y ++ join (λ j. written (a.strategies j)) r) q.form
@@ -154,10 +155,6 @@ module _ {S : Type 0} (𝓢 : StoreMeaning S) (m : Meaning) (H : ℕ) (lawful : 
                 cost = omega (arith, q.cost, a.cost);
                 fits = a.fits;
               }
-            where
-              win : (j : ℕ) → j < suc r → Wins m floor v ((j + k) ∷ l) (first_then q.strategy a.strategies j)
-              win zero y = subst (λ (i : ℕ). Wins m floor v (i ∷ l) q.strategy) (omega arith) q.wins
-              win (suc j) y = subst (λ (i : ℕ). Wins m floor v (i ∷ l) (a.strategies j)) (omega arith) (a.win j (omega arith))
 
           by : (x : Put) → LaidAt (k ∷ l) out n x →
               ((out : List ℕ) (n : ℕ) → length out ≤ room → Holds (EachAt l (suc k) r out n) (each go (suc k) r out n)) →
@@ -193,7 +190,7 @@ module _ {S : Type 0} (𝓢 : StoreMeaning S) (m : Meaning) (H : ℕ) (lawful : 
               }
 
           other : black_moves (m.view l) ≡ not v → not (black_moves (m.view l)) ≡ v
-          other b = ap not b ∙ not_not v
+          other b = ap not b ∙ not-not v
 
           kept : black_moves (m.view l) ≡ not v → (k : ℕ) → k < (m.view l).moves → at_least m H floor (k ∷ l) ≡ v
           kept b k h =

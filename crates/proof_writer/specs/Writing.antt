@@ -5,8 +5,7 @@ use Rattle.store.specs.Interface.{StoreMeaning}
 use Rattle.search_method.specs.Tree.{Runs}
 use Rattle.search_method.specs.declared.claim.Claim.{Claim}
 use Rattle.proof_method.specs.declared.state.State.{State}
-use Rattle.proof_method.specs.Strategy.{bit}
-use Rattle.proof_method.specs.Write.{Put, put, failed, Part, played, each, own, solved, at_line, number, walk, first, start, Written, proof, unwritten, buffer}
+use Rattle.proof_method.specs.Write.{Put, put, failed, Part, next, played, each, own, solved, at_line, number, walk, start, Written, proof, unwritten, buffer}
 use Rattle.proof_writer.specs.declared.refusal.WriteRefusal.{WriteRefusal}
 use Rattle.proof_writer.specs.declared.refusal.WriteRefusal.TheVariants.{Floor, Memory, OutOfBudget, NoRoom}
 use Rattle.proof_writer.specs.declared.write.Written.{Written as CodeWritten}
@@ -43,6 +42,10 @@ abbrev pub Framed : State → List ℕ → List ℕ → Result State WriteRefusa
 Framed s before after (Ok t) =
     (s.at ≤ t.at) × (t.at ≤ length before) × (t.left ≤ s.left) × (drop t.at after ≡ drop t.at before)
 Framed s before after (Err e) = 7 ≤ write_number e
+
+-- a number k is put, or the writing fails, as the definition says for whatever part comes after it
+abbrev pub Puts : ℕ → State → List ℕ → List ℕ → Result State WriteRefusal → Type 0
+Puts k s before after r = (p : Part) → number (length before) k p (take s.at before) s.left ≡ next p (put_by after r)
 
 -- a part p does what the definition says, for any fuel that covers the plays left
 abbrev pub Does : {S : Type 0} → StoreMeaning S → (ℕ → Part) → State → List ℕ → S → List ℕ → S → Result State WriteRefusal → Type 0
@@ -82,10 +85,6 @@ module _ {S : Type 0} (𝓢 : StoreMeaning S) (m : Meaning) (claim : Claim) (l :
 
   abbrev pub Walks : Option ℕ → State → List ℕ → S → List ℕ → S → Result State WriteRefusal → Type 0
   Walks known s before = Does 𝓢 (line_part m claim l (length before) known) s before
-
-  abbrev pub Follows : ℕ → State → List ℕ → S → List ℕ → S → Result State WriteRefusal → Type 0
-  Follows k s before =
-      Does 𝓢 (λ f. number (length before) (bit claim.yes) (first 7 m claim.floor (length before) claim.yes l f k)) s before
 
   abbrev pub Starts : ℕ → State → List ℕ → S → List ℕ → S → Result State WriteRefusal → Type 0
   Starts k s before = Does 𝓢 (λ f. start 7 m claim.floor (length before) claim.yes l f k) s before

@@ -5,7 +5,6 @@
 // equal to, and the theorems about it.
 #![tactic(auto)]
 
-mod finding;
 pub mod refusal;
 mod walk;
 pub mod write;

@@ -1,6 +1,9 @@
 // Why a proof was not written. docs/REFUSALS.md has every number.
 ghost use Rattle.std.specs.Prelude.{◌≡◌};
+ghost use Rattle.search_method.specs.Refusals.{refusal_number};
 ghost use Rattle.proof_writer.specs.Writing.{write_number};
+
+use search_method::kinds::SolveRefusal;
 
 // The floor is not 1 or 2; too little work memory; out of budget; the next number does not fit the buffer.
 #[derive(Clone, Copy, PartialEq, Eq, Debug)]
@@ -20,6 +23,18 @@ impl WriteRefusal {
             WriteRefusal::Memory => 6,
             WriteRefusal::OutOfBudget => 7,
             WriteRefusal::NoRoom => 8,
+        }
+    }
+}
+
+// Write is refused with what the search that it begins with is refused with.
+impl From<SolveRefusal> for WriteRefusal {
+    ghost from_gives = { λ e r. write_number r ≡ refusal_number e };
+
+    fn from(refusal: SolveRefusal) -> WriteRefusal {
+        match refusal {
+            SolveRefusal::Floor => WriteRefusal::Floor,
+            SolveRefusal::Memory => WriteRefusal::Memory,
         }
     }
 }

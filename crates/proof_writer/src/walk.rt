@@ -1,270 +1,150 @@
 // The walk that puts the moves of the claiming side.
 ghost use Rattle.std.specs.Prelude.{◌≡◌, ◌<◌, ◌≤◌, length, None};
-ghost use Rattle.game.specs.Kept.{Kept};
 ghost use Rattle.proof_method.specs.Strategy.{bit};
-ghost use Rattle.proof_writer.specs.Writing.{Framed, Walks, Plays, Owns, PlaysAll, Solves, Follows, Starts};
+ghost use Rattle.proof_writer.specs.Writing.{Framed, Puts, Walks, Plays, Owns, PlaysAll, Solves, Starts};
 
-use crate::finding::find;
 use crate::refusal::WriteRefusal;
 use codec::put_number;
 use game::interface::Bounded;
 use proof_method::state::State;
-use search::memory::LineRecord;
+use search::memory::SearchMemory;
+use search::solve::solve;
 use search_method::claim::Claim;
-use search_method::kinds::{Answer, Pair};
+use search_method::kinds::Answer;
 use store::interface::Store;
 
-// A legal move is played, the walk goes on, and the move is taken back.
-#[cycle(all_moves_own_own_turn_step_walk)]
-fn step<G: Bounded, S: Store>(
-    game: &mut G,
-    store: &mut S,
-    lines: &mut [LineRecord],
-    moves: &mut [Pair],
-    out: &mut [u8],
-    claim: Claim,
-    k: u32,
-    state: State,
-) -> Result<State, WriteRefusal>
-    requires floor { (1 ≤ claim.floor) × (claim.floor ≤ 2) }
-    requires memory { (97 ≤ length lines.old) × (6_208 ≤ length moves.old) }
-    requires legal { k < ((G.Game.means game.old).view (G.Game.line game.old)).moves }
-    requires inside { state.at ≤ length out.old }
-    ensures is { Plays S.Store.store (G.Game.means game.old) claim (G.Game.line game.old) k state out.old store.old out.new store.new result }
+// A number is put, if it fits.
+fn put(out: &mut [u8], state: State, number: u32) -> Result<State, WriteRefusal>
+    requires { state.at ≤ length out.old }
+    ensures is { Puts number state out.old out.new result }
     ensures framed { Framed state out.old out.new result }
-    ensures kept { Kept G.Game.means G.Game.line game.old game.new }
 {
-    if state.left == 0 {
-        return Err(WriteRefusal::OutOfBudget);
-    }
-    let _ = game.play(k);
-    let below = walk(
-        game,
-        store,
-        lines,
-        moves,
-        out,
-        claim,
-        None,
-        State {
-            at: state.at,
-            left: state.left - 1,
-        },
-    );
-    let _ = game.take_back();
-    below
+    let at = put_number(out, state.at, number).ok_or(WriteRefusal::NoRoom)?;
+    Ok(State { at, ..state })
 }
 
-// A move of the claiming side: its number, and then its play. A solved move is always legal.
-#[cycle(all_moves_own_own_turn_step_walk)]
-fn own<G: Bounded, S: Store>(
-    game: &mut G,
-    store: &mut S,
-    lines: &mut [LineRecord],
-    moves: &mut [Pair],
-    out: &mut [u8],
-    claim: Claim,
-    k: u32,
-    state: State,
-) -> Result<State, WriteRefusal>
-    requires floor { (1 ≤ claim.floor) × (claim.floor ≤ 2) }
-    requires memory { (97 ≤ length lines.old) × (6_208 ≤ length moves.old) }
-    requires inside { state.at ≤ length out.old }
-    ensures is { Owns S.Store.store (G.Game.means game.old) claim (G.Game.line game.old) k state out.old store.old out.new store.new result }
-    ensures framed { Framed state out.old out.new result }
-    ensures kept { Kept G.Game.means G.Game.line game.old game.new }
-{
-    if k >= game.moves() {
-        return Err(WriteRefusal::OutOfBudget);
-    }
-    match put_number(out, state.at, k) {
-        None => Err(WriteRefusal::NoRoom),
-        Some(at) => step(
-            game,
-            store,
-            lines,
-            moves,
-            out,
-            claim,
-            k,
+// What the walk works with. No search is refused, as the floor can be asked for and there is memory enough. Each reference
+// has a lifetime of its own: with one for all of them the function that lends them gets no proof.
+#[derive(Drop)]
+pub(crate) struct Writer<'g, 's, 'a, 'm, 'o, G: Bounded, S: Store> {
+    pub(crate) game: &'g mut G,
+    pub(crate) store: &'s mut S,
+    pub(crate) memory: &'a mut SearchMemory<'m>,
+    pub(crate) out: &'o mut [u8],
+    pub(crate) claim: Claim,
+    ghost low: { 1 ≤ claim.floor },
+    ghost high: { claim.floor ≤ 2 },
+    ghost lines: { 97 ≤ length memory.now.lines.now },
+    ghost moves: { 6_208 ≤ length memory.now.moves.now },
+}
+
+impl<G: Bounded, S: Store> Writer<'_, '_, '_, '_, '_, G, S> {
+    ghost use Rattle.proof_writer.specs.Leaving.{Leaves};
+
+    // A legal move is played, the walk goes on, and the move is taken back.
+    #[cycle(walk)]
+    fn step(&mut self, k: u32, state: State) -> Result<State, WriteRefusal>
+        requires legal { k < ((G.Game.means self.old.game.now).view (G.Game.line self.old.game.now)).moves }
+        requires inside { state.at ≤ length self.old.out.now }
+        ensures is { Plays S.Store.store (G.Game.means self.old.game.now) self.old.claim (G.Game.line self.old.game.now) k state self.old.out.now self.old.store.now self.new.out.now self.new.store.now result }
+        ensures framed { Framed state self.old.out.now self.new.out.now result }
+        ensures leaves { Leaves G.Game.means G.Game.line self.old self.new }
+    {
+        if state.left == 0 {
+            return Err(WriteRefusal::OutOfBudget);
+        }
+        let _ = self.game.play(k);
+        let below = self.walk(
+            None,
             State {
-                at,
-                left: state.left,
+                left: state.left - 1,
+                ..state
             },
-        ),
+        );
+        let _ = self.game.take_back();
+        below
     }
-}
 
-// The turn of the claiming side: the line is solved for the move.
-#[cycle(all_moves_own_own_turn_step_walk)]
-fn own_turn<G: Bounded, S: Store>(
-    game: &mut G,
-    store: &mut S,
-    lines: &mut [LineRecord],
-    moves: &mut [Pair],
-    out: &mut [u8],
-    claim: Claim,
-    state: State,
-) -> Result<State, WriteRefusal>
-    requires floor { (1 ≤ claim.floor) × (claim.floor ≤ 2) }
-    requires memory { (97 ≤ length lines.old) × (6_208 ≤ length moves.old) }
-    requires inside { state.at ≤ length out.old }
-    ensures is { Solves S.Store.store (G.Game.means game.old) claim (G.Game.line game.old) state out.old store.old out.new store.new result }
-    ensures framed { Framed state out.old out.new result }
-    ensures kept { Kept G.Game.means G.Game.line game.old game.new }
-{
-    match find(game, store, claim.floor, state.left, lines, moves) {
-        Answer::OutOfBudget { .. } => Err(WriteRefusal::OutOfBudget),
-        Answer::Solved { best, count, .. } => own(
-            game,
-            store,
-            lines,
-            moves,
-            out,
-            claim,
-            best as u32,
-            State {
-                at: state.at,
-                left: state.left - count,
-            },
-        ),
+    // A move of the claiming side: its number, and then its play. A solved move is always legal.
+    #[cycle(walk)]
+    fn own(&mut self, k: u32, state: State) -> Result<State, WriteRefusal>
+        requires inside { state.at ≤ length self.old.out.now }
+        ensures is { Owns S.Store.store (G.Game.means self.old.game.now) self.old.claim (G.Game.line self.old.game.now) k state self.old.out.now self.old.store.now self.new.out.now self.new.store.now result }
+        ensures framed { Framed state self.old.out.now self.new.out.now result }
+        ensures leaves { Leaves G.Game.means G.Game.line self.old self.new }
+    {
+        if k >= self.game.moves() {
+            return Err(WriteRefusal::OutOfBudget);
+        }
+        let after = put(self.out, state, k)?;
+        self.step(k, after)
     }
-}
 
-// Every move of the other side in order.
-#[cycle(all_moves_own_own_turn_step_walk)]
-fn all_moves<G: Bounded, S: Store>(
-    game: &mut G,
-    store: &mut S,
-    lines: &mut [LineRecord],
-    moves: &mut [Pair],
-    out: &mut [u8],
-    claim: Claim,
-    count: u32,
-    start: State,
-) -> Result<State, WriteRefusal>
-    requires floor { (1 ≤ claim.floor) × (claim.floor ≤ 2) }
-    requires memory { (97 ≤ length lines.old) × (6_208 ≤ length moves.old) }
-    requires all { count ≡ ((G.Game.means game.old).view (G.Game.line game.old)).moves }
-    requires inside { start.at ≤ length out.old }
-    ensures is { PlaysAll S.Store.store (G.Game.means game.old) claim (G.Game.line game.old) start out.old store.old out.new store.new result }
-    ensures framed { Framed start out.old out.new result }
-    ensures kept { Kept G.Game.means G.Game.line game.old game.new }
-{
-    let mut state = start;
-    for k in 0..count {
-        state = step(game, store, lines, moves, out, claim, k, state)?;
+    // The turn of the claiming side: the line is solved for the move.
+    #[cycle(walk)]
+    fn own_turn(&mut self, state: State) -> Result<State, WriteRefusal>
+        requires inside { state.at ≤ length self.old.out.now }
+        ensures is { Solves S.Store.store (G.Game.means self.old.game.now) self.old.claim (G.Game.line self.old.game.now) state self.old.out.now self.old.store.now self.new.out.now self.new.store.now result }
+        ensures framed { Framed state self.old.out.now self.new.out.now result }
+        ensures leaves { Leaves G.Game.means G.Game.line self.old self.new }
+    {
+        let floor = u32::from(self.claim.floor);
+        match solve(self.game, self.store, floor, state.left, self.memory)? {
+            Answer::OutOfBudget { .. } => Err(WriteRefusal::OutOfBudget),
+            Answer::Solved { best, count, .. } => self.own(
+                u32::from(best),
+                State {
+                    left: state.left - count,
+                    ..state
+                },
+            ),
+        }
     }
-    Ok(state)
-}
 
-// The walk from the game's line, whose move may be known already. The game is at that line again on every way out.
-#[cycle(all_moves_own_own_turn_step_walk)]
-fn walk<G: Bounded, S: Store>(
-    game: &mut G,
-    store: &mut S,
-    lines: &mut [LineRecord],
-    moves: &mut [Pair],
-    out: &mut [u8],
-    claim: Claim,
-    known: Option<u32>,
-    state: State,
-) -> Result<State, WriteRefusal>
-    requires floor { (1 ≤ claim.floor) × (claim.floor ≤ 2) }
-    requires memory { (97 ≤ length lines.old) × (6_208 ≤ length moves.old) }
-    requires inside { state.at ≤ length out.old }
-    ensures is { Walks S.Store.store (G.Game.means game.old) claim (G.Game.line game.old) known state out.old store.old out.new store.new result }
-    ensures framed { Framed state out.old out.new result }
-    ensures kept { Kept G.Game.means G.Game.line game.old game.new }
-{
-    if let Some(_) = game.score() {
-        return Ok(state);
+    // Every move of the other side in order.
+    #[cycle(walk)]
+    fn all_moves(&mut self, start: State) -> Result<State, WriteRefusal>
+        requires inside { start.at ≤ length self.old.out.now }
+        ensures is { PlaysAll S.Store.store (G.Game.means self.old.game.now) self.old.claim (G.Game.line self.old.game.now) start self.old.out.now self.old.store.now self.new.out.now self.new.store.now result }
+        ensures framed { Framed start self.old.out.now self.new.out.now result }
+        ensures leaves { Leaves G.Game.means G.Game.line self.old self.new }
+    {
+        let mut state = start;
+        for k in 0..self.game.moves() {
+            state = self.step(k, state)?;
+        }
+        Ok(state)
     }
-    if !claim.claims(game.turn()) {
-        let count = game.moves();
-        return all_moves(game, store, lines, moves, out, claim, count, state);
-    }
-    match known {
-        Some(k) => own(game, store, lines, moves, out, claim, k, state),
-        None => own_turn(game, store, lines, moves, out, claim, state),
-    }
-}
 
-// The verdict as a number.
-fn verdict_number(yes: bool) -> u32
-    ensures { result ≡ bit yes }
-{
-    if yes { 1 } else { 0 }
-}
-
-// The number of the verdict, then the walk from the line whose move is known.
-fn put_verdict<G: Bounded, S: Store>(
-    game: &mut G,
-    store: &mut S,
-    lines: &mut [LineRecord],
-    moves: &mut [Pair],
-    out: &mut [u8],
-    claim: Claim,
-    best: u32,
-    state: State,
-) -> Result<State, WriteRefusal>
-    requires floor { (1 ≤ claim.floor) × (claim.floor ≤ 2) }
-    requires memory { (97 ≤ length lines.old) × (6_208 ≤ length moves.old) }
-    requires inside { state.at ≤ length out.old }
-    ensures is { Follows S.Store.store (G.Game.means game.old) claim (G.Game.line game.old) best state out.old store.old out.new store.new result }
-    ensures framed { Framed state out.old out.new result }
-    ensures kept { Kept G.Game.means G.Game.line game.old game.new }
-{
-    match put_number(out, state.at, verdict_number(claim.yes)) {
-        None => Err(WriteRefusal::NoRoom),
-        Some(at) => walk(
-            game,
-            store,
-            lines,
-            moves,
-            out,
-            claim,
-            Some(best),
-            State {
-                at,
-                left: state.left,
-            },
-        ),
+    // The walk from the game's line, whose move may be known already. The game is at that line again on every way out.
+    #[cycle(walk)]
+    fn walk(&mut self, known: Option<u32>, state: State) -> Result<State, WriteRefusal>
+        requires inside { state.at ≤ length self.old.out.now }
+        ensures is { Walks S.Store.store (G.Game.means self.old.game.now) self.old.claim (G.Game.line self.old.game.now) known state self.old.out.now self.old.store.now self.new.out.now self.new.store.now result }
+        ensures framed { Framed state self.old.out.now self.new.out.now result }
+        ensures leaves { Leaves G.Game.means G.Game.line self.old self.new }
+    {
+        if self.game.score().is_some() {
+            return Ok(state);
+        }
+        if !self.claim.claims(self.game.turn()) {
+            return self.all_moves(state);
+        }
+        match known {
+            Some(k) => self.own(k, state),
+            None => self.own_turn(state),
+        }
     }
-}
 
-// The floor, then the rest of the file.
-pub(crate) fn put_file<G: Bounded, S: Store>(
-    game: &mut G,
-    store: &mut S,
-    lines: &mut [LineRecord],
-    moves: &mut [Pair],
-    out: &mut [u8],
-    claim: Claim,
-    best: u32,
-    state: State,
-) -> Result<State, WriteRefusal>
-    requires floor { (1 ≤ claim.floor) × (claim.floor ≤ 2) }
-    requires memory { (97 ≤ length lines.old) × (6_208 ≤ length moves.old) }
-    requires inside { state.at ≤ length out.old }
-    ensures is { Starts S.Store.store (G.Game.means game.old) claim (G.Game.line game.old) best state out.old store.old out.new store.new result }
-    ensures framed { Framed state out.old out.new result }
-    ensures kept { Kept G.Game.means G.Game.line game.old game.new }
-{
-    match put_number(out, state.at, claim.floor as u32) {
-        None => Err(WriteRefusal::NoRoom),
-        Some(at) => put_verdict(
-            game,
-            store,
-            lines,
-            moves,
-            out,
-            claim,
-            best,
-            State {
-                at,
-                left: state.left,
-            },
-        ),
+    // The two numbers of the claim, then the walk from the line whose move is known.
+    pub(crate) fn put_file(&mut self, best: u32, state: State) -> Result<State, WriteRefusal>
+        requires inside { state.at ≤ length self.old.out.now }
+        ensures is { Starts S.Store.store (G.Game.means self.old.game.now) self.old.claim (G.Game.line self.old.game.now) best state self.old.out.now self.old.store.now self.new.out.now self.new.store.now result }
+        ensures framed { Framed state self.old.out.now self.new.out.now result }
+        ensures leaves { Leaves G.Game.means G.Game.line self.old self.new }
+    {
+        let verdict = put(self.out, state, u32::from(self.claim.floor))?;
+        let moves = put(self.out, verdict, u32::from(self.claim.yes))?;
+        self.walk(Some(best), moves)
     }
 }

@@ -1,7 +1,7 @@
-use Rattle.std.proofs.Common.{◌≡◌, ◌+◌, ◌*◌, length}
-use Rattle.game.specs.Kept.{Kept}
+use Rattle.std.proofs.Common.{◌+◌, ◌*◌}
+use Rattle.proof_writer.specs.Leaving.{Leaves}
 use Rattle.proof_writer.proofs.Steps.{Begun}
-use Rattle.proof_writer.proofs.walk.+all_moves_own_own_turn_step_walk.Given as goal
+use Rattle.proof_writer.proofs.walk.Writer.+walk.Given as goal
 
 abbrev pub decreases-walk : goal.decreases-walk
 decreases-walk g l = 4 * l.state.left + 3
@@ -20,7 +20,5 @@ decreases-step g l = 4 * l.state.left
 
 abbrev pub invariant-all_moves-loop-k : goal.invariant-all_moves-loop-k
 invariant-all_moves-loop-k g l =
-    Kept g.G.Game.means g.G.Game.line l.initial.game l.game
-    × Begun g.S.Store.store (g.G.Game.means l.initial.game) l.claim (g.G.Game.line l.initial.game) l.initial.state l.initial.out l.initial.store l.k l.state l.out l.store
-    × (length l.lines ≡ length l.initial.lines)
-    × (length l.moves ≡ length l.initial.moves)
+    Leaves g.G.Game.means g.G.Game.line l.initial.self l.self
+    × Begun g.S.Store.store (g.G.Game.means l.initial.self.game.now) l.initial.self.claim (g.G.Game.line l.initial.self.game.now) l.initial.state l.initial.self.out.now l.initial.self.store.now l.k l.state l.self.out.now l.self.store.now
