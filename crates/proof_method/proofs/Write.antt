@@ -7,7 +7,8 @@ use Rattle.game.specs.declared.kinds.Score.{Score}
 use Rattle.game.specs.Meaning.{Line, Meaning, Reachable}
 use Rattle.game.specs.Laws.{Lawful, BoundedBy}
 use Rattle.game.specs.Value.{best, black_moves, value, at_least}
-use Rattle.game.proofs.Value.{value_over, value_step, one_settles, le_of}
+use Rattle.std.proofs.lemmas.Bool.{leb-true}
+use Rattle.game.proofs.Value.{value_over, value_step, one_settles}
 use Rattle.store.specs.Interface.{StoreMeaning}
 use Rattle.search_method.specs.declared.kinds.Answer.{Answer}
 use Rattle.search_method.specs.declared.kinds.Answer.TheVariants.{Solved, OutOfBudget}
@@ -94,7 +95,7 @@ module _ {S : Type 0} (𝓢 : StoreMeaning S) (m : Meaning) (H : ℕ) (lawful : 
     where
       by : (t : Bool) → leb (length out + length (encode j)) room ≡ t → Holds P (choose t (p (out ++ encode j) n) (done (failed 8)))
       by false z = ends P (failed 8) no_room
-      by true z = h (omega (arith, length-append out (encode j), le_of (length out + length (encode j)) room z))
+      by true z = h (omega (arith, length-append out (encode j), leb-true (length out + length (encode j)) room z))
 
   module _ (v : Bool) where
     abbrev LaidAt : Line → List ℕ → ℕ → Put → Type 0
