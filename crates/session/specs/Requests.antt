@@ -22,7 +22,7 @@ pub record Desk : Type 0 where
 abbrev pub desk : List ℕ → ℕ → Desk
 desk bytes written = record { bytes = bytes; written = written }
 
--- of what the code lends to all calls
+-- the desk that the code keeps
 abbrev pub desk_of : Lent → Desk
 desk_of d = desk d.bytes.now d.written
 
