@@ -1,7 +1,7 @@
 // The direct-mapped table: a store over a row of slots that is lent to it.
 //
 // A key has one slot. Recording overwrites what is there; probing shows what is there if every field of the key agrees.
-ghost use Rattle.std.specs.Prelude.{◌≡◌, ◌<◌, MatchOption};
+ghost use Rattle.std.specs.Prelude.{◌≡◌, ◌<◌, SomeIff};
 ghost use Rattle.store.specs.Slots.{emptied, hash, slot_of};
 ghost use Rattle.store.specs.Stores.{table_store};
 
@@ -21,10 +21,9 @@ fn hashed(key: Key) -> u64
 
 // The slot of a key in a row of `len`; a row without slots has none.
 fn slot_of(key: Key, len: usize) -> Option<usize>
-    ensures { MatchOption result (len ≡ 0) (λ slot. (slot ≡ slot_of key len) × (slot < len)) }
+    ensures { SomeIff result (0 < len) (slot_of key len) }
 {
-    let slot = hashed(key).checked_rem(len as u64)?;
-    Some(slot as usize)
+    (hashed(key) as usize).checked_rem(len)
 }
 
 impl<'a> Table<'a> {
