@@ -17,10 +17,6 @@ abbrev pub prepend : List Pair → Option (List Pair) → Option (List Pair)
 prepend ps None = None
 prepend ps (Some qs) = Some (ps ++ qs)
 
-prepend_none : (r : Option (List Pair)) → r ≡ prepend [] r
-prepend_none None = refl
-prepend_none (Some qs) = refl
-
 prepend_more : (ps : List Pair) (p : Pair) (r : Option (List Pair)) → prepend ps (prepend (p ∷ []) r) ≡ prepend (ps ++ (p ∷ [])) r
 prepend_more ps p None = refl
 prepend_more ps p (Some qs) = ap Some (sym (append_assoc ps (p ∷ []) qs))

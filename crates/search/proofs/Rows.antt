@@ -1,13 +1,13 @@
 -- The numbers of a line's moves.
-use Rattle.std.proofs.Common.{◌≡◌, ℕ, zero, suc, ◌+◌, ◌<◌, ◌≤◌, min, Bool, true, false, cond, not, ◌||◌, eqb, ltb, List, [], ◌∷◌, map, reverse, length, get_or, take, drop, Some, None, unwrap_or, sym, refl, ap, ◌∙◌, ap₂, arith}
+use Rattle.std.proofs.Common.{◌≡◌, ℕ, zero, suc, ◌+◌, ◌<◌, ◌≤◌, min, Bool, true, false, cond, not, ◌||◌, eqb, ltb, List, [], ◌∷◌, reverse, length, get_or, take, drop, Some, None, unwrap_or, sym, refl, ap, ◌∙◌, arith}
 use Rattle.std.specs.List.{All, fold, position, position_or_len}
 use Rattle.std.proofs.lemmas.Bool.Decides.{nat_tests}
-use Rattle.std.proofs.lemmas.List.{reverse-append, length-map, get_or-map}
+use Rattle.std.proofs.lemmas.List.{reverse-append, length-map}
 use Rattle.std.proofs.lemmas.List.Sums.{fold_push, prefix_len-le-length}
 use Rattle.std.proofs.lemmas.List.Recursion.{is_position_or_len}
 use Rattle.search_method.specs.declared.kinds.Pair.{Pair}
-use Rattle.search_method.specs.Pairs.{M, INF, unknown, seen, least, plain, endless, sum, first, others, pair_of, choice_of, limits_of, reached}
-use Rattle.search.specs.Numbers.{mine, theirs, plus, own_limit, other_limit, Small}
+use Rattle.search_method.specs.Pairs.{M, INF, seen, least, plain, endless, sum, first, others, pair_of, reached}
+use Rattle.search.specs.Numbers.{mine, theirs, plus, Small}
 
 abbrev pub zeros : Pair
 zeros = record { pn = 0; dn = 0 }
@@ -143,21 +143,3 @@ limits_fit black limit ps k e f g cap below small lt =
     let b : (seen black limit).dn ≤ INF = seen_small black limit cap in
     let o : (seen black (get_or ps k zeros)).dn ≤ sum (theirs black ps) = own_le_sum black ps k small lt (omega arith) in
     rw (e, f, g) (b, omega arith, o)
-
--- the limits of the chosen move
-pub limits_are : (black : Bool) (limit : Pair) (ps : List Pair) {k : ℕ} {lim own r : Pair} {pn dn second total : ℕ}
-    → lim ≡ seen black limit → own ≡ seen black (get_or ps k zeros) → total ≡ sum (theirs black ps)
-    → second ≡ least (others k (mine black ps)) → k ≡ choice_of black ps → k < length ps
-    → pn ≡ own_limit lim.pn second → dn ≡ other_limit lim.dn total own.dn
-    → r ≡ seen black (record { pn = pn; dn = dn }) → r ≡ limits_of black limit ps
-limits_are black limit ps {k} {lim} {own} {r} {pn} {dn} {second} {total} el eo et es ek lt ep ed er =
-    let fo : own ≡ get_or (map (seen black) ps) (choice_of black ps) unknown = eo ∙ (sym (get_or-map (seen black) ps k zeros unknown lt) ∙ ap (λ n. get_or (map (seen black) ps) n unknown) ek) in
-    let fs : second ≡ least (others (choice_of black ps) (mine black ps)) = es ∙ ap (λ n. least (others n (mine black ps))) ek in
-    let fp : pn ≡ own_limit (seen black limit).pn (least (others (choice_of black ps) (mine black ps))) = ep ∙ ap₂ (λ (l : Pair) n. own_limit l.pn n) el fs in
-    let fd : dn ≡ other_limit (seen black limit).dn (sum (theirs black ps)) (get_or (map (seen black) ps) (choice_of black ps) unknown).dn =
-    ed ∙ (λ i. other_limit (el i).dn (et i) (fo i).dn) in
-    er ∙ (λ i. seen black (record { pn = fp i; dn = fd i }))
-
-pub seen_capped : (black : Bool) (p : Pair) → Small p → Small (seen black p)
-seen_capped true p h = h
-seen_capped false p h = (h.1, h.0)

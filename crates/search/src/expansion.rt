@@ -1,6 +1,7 @@
 // The expansion of a line: its most promising move is expanded, turn after turn, until a limit is reached.
 //
-// The facts about a limit stand in the contracts: the caller of the search may make a `LineRecord` of any numbers.
+// The work memory goes down as two slices, of which each line splits off its own part. The facts about a limit stand in
+// the contracts, and in no type: the caller of the search may make a `LineRecord` of any numbers.
 ghost use Rattle.std.specs.Prelude.{◌≡◌, ℕ, ◌-◌, ◌*◌, ◌<◌, ◌≤◌, length};
 ghost use Rattle.std.specs.List.{All};
 ghost use Rattle.search_method.specs.Search.{moves_left};

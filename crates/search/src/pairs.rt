@@ -38,6 +38,7 @@ pub(crate) fn open_pair(pn: u32, dn: u32) -> Pair
     }
 }
 
+// INF where one of the two is INF, and otherwise at most the greatest number of an open pair.
 fn add(x: u32, y: u32) -> u32
     ensures { result ≡ plus x y }
 {
@@ -48,17 +49,18 @@ fn add(x: u32, y: u32) -> u32
     }
 }
 
+// The limits of a move, as the side on turn sees them: on its own number, by that of the second best move, and on the sum.
 fn own_limit(limit: u32, second: u32) -> u32
     ensures is { result ≡ own_limit limit second }
-    ensures capped { result ≤ 1048576 }
+    ensures capped { result ≤ INF }
 {
     limit.min(second.saturating_add(1).min(INF))
 }
 
 fn other_limit(limit: u32, total: u32, own: u32) -> u32
-    requires within { (limit ≤ 1048576) × (total ≤ limit) × (own ≤ total) }
+    requires within { (limit ≤ INF) × (total ≤ limit) × (own ≤ total) }
     ensures is { result ≡ other_limit limit total own }
-    ensures capped { result ≤ 1048576 }
+    ensures capped { result ≤ INF }
 {
     if limit == INF {
         INF
@@ -67,6 +69,7 @@ fn other_limit(limit: u32, total: u32, own: u32) -> u32
     }
 }
 
+// One of the numbers has come to its limit.
 pub(crate) fn reaches(limit: Pair, pair: Pair) -> bool
     ensures { result ≡ reached limit pair }
 {
@@ -95,6 +98,7 @@ impl Row<'_> {
         }
     }
 
+    // The least of the numbers that the side on turn wants to be small, and the sum of the others.
     fn least(&self) -> u32
         ensures { result ≡ least (mine self.now.black self.now.pairs.now) }
     {

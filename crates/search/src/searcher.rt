@@ -39,7 +39,8 @@ impl<G: Bounded, S: Store> Searcher<'_, G, S> {
         Some(())
     }
 
-    // The last move is taken back.
+    // The last move is taken back. What is done after a move stands between `play` and this call in a method of its own:
+    // as a closure it would say the same clauses again, and be asked for what ends the cycle of calls besides.
     pub(crate) fn take_back(&mut self)
         ensures { TakesBack G.Game.means G.Game.line self.old self.new }
     {
