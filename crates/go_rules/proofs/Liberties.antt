@@ -63,7 +63,7 @@ pub free_on : (n s t : ℕ) → OnBoard n (free_of n s t)
 unfolding free_of
 free_on n s t = set_lt (n * n) _
 
-stone_on : (n s p : ℕ) → p < n * n → OnBoard n s → OnBoard n (with_stone s p)
+pub stone_on : (n s p : ℕ) → p < n * n → OnBoard n s → OnBoard n (with_stone s p)
 stone_on n s p h on = or_lt (n * n) s (2 ^ p) on (pow_below p (n * n) h)
 
 -- a stone more leaves no more points free

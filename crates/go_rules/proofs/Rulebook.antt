@@ -1,9 +1,9 @@
 -- The game is told by the rules.
 use Rattle.std.proofs.Common.{◌≡◌, ℕ, ◌*◌, ◌<◌, ◌≤◌, true, eqb, length, get_or, Some, None, Option, sym, refl, ap, ◌∙◌, subst, inl, inr, arith}
-use Rattle.std.proofs.lemmas.Bool.{cases_lt, cond-true, eq-eqb}
+use Rattle.std.proofs.lemmas.Bool.{cases_lt, cond_both, cond-true, eq-eqb}
 use Rattle.game.specs.declared.kinds.Side.{Side}
 use Rattle.game.specs.declared.kinds.Side.TheVariants.{Black, White}
-use Rattle.game.specs.Kinds.{other}
+use Rattle.game.specs.Kinds.{is_black, other}
 use Rattle.game.specs.Meaning.{Line, Reachable}
 use Rattle.point_sets.specs.Points.{has, list_of}
 use Rattle.point_sets.proofs.Sets.{has_inside}
@@ -37,8 +37,7 @@ kept Black b w p = refl
 kept White b w p = refl
 
 side_on : (s : Side) (n a b : ℕ) → OnBoard n a → OnBoard n b → OnBoard n (by_side s a b)
-side_on Black n a b h k = h
-side_on White n a b h k = k
+side_on s n a b h k = cond_both (is_black s) a b (OnBoard n) (λ _. h) (λ _. k)
 
 module _ (n : ℕ) (high : n ≤ 7) (start : Place) (good : Placed n start) (l : Line) (reached : Reachable (atari_go n start) l) where
   here : Placed n (standing n start l)
@@ -111,7 +110,7 @@ module _ (n : ℕ) (high : n ≤ 7) (start : Place) (good : Placed n start) (l :
 
 fine : (o d : Option ℕ) → first_fault o d ≡ None → o ≡ None
 fine None d e = refl
-fine (Some i) d e = let z : ◌≡◌ {A = ℕ} 0 1 = cc in absurd (omega arith)
+fine (Some i) d e = cc
 
 pub all_told : ToldByRules
 all_told t e l reached =
