@@ -3,7 +3,8 @@ use Rattle.std.proofs.Common.{◌≡◌, ℕ, ◌+◌, ◌-◌, ◌*◌, ◌/◌
 use native.Mathlib.Nat.{mod-le}
 use lib.Bits.{bit_and, bit_or, and_le_r, or_lt}
 use Rattle.std.proofs.lemmas.Nat.{mul-le}
-use Rattle.std.proofs.lemmas.Bool.{ltb-true, le-leb}
+use Rattle.std.proofs.lemmas.Bool.Decides.{nat_tests}
+use Rattle.std.proofs.Math.Bool.{and_comm, and-true}
 use Rattle.point_sets.specs.Points.{has, set_of}
 use Rattle.go_rules.specs.Groups.{touches, around, points, left_ones, right_ones}
 use Rattle.point_sets.proofs.Sets.{has_and, has_or, has_shr, has_shl, has_set, set_lt, same_set}
@@ -26,43 +27,24 @@ shifted_lt n m =
     (inside (m * 2 ^ 1 % 2 ^ 64) (λ p. ltb 0 (p % n))) (inside (m / 2 ^ 1) (λ p. ltb (p % n + 1) n)))
     (inside (bit_or (m * 2 ^ n % 2 ^ 64) (m / 2 ^ n)) (λ p. true))
 
-by_left : (a b c : Bool) → (c ≡ true → a ≡ true) → ((a && b) && c) ≡ (c && b)
-by_left true true true h = refl
-by_left true true false h = refl
-by_left true false true h = refl
-by_left true false false h = refl
-by_left false true true h = h refl
-by_left false true false h = refl
-by_left false false true h = refl
-by_left false false false h = refl
-
-swap : (a b : Bool) → (a && b) ≡ (b && a)
-swap true true = refl
-swap true false = refl
-swap false true = refl
-swap false false = refl
-
-and_true : (a b : Bool) → b ≡ true → (a && b) ≡ a
-and_true true b e = e
-and_true false b e = refl
-
 module _ (n m p : ℕ) (small : n ≤ 7) (on : p < n * n) where
   left : has (bit_and (m * 2 ^ 1 % 2 ^ 64) (left_ones n)) p ≡ (ltb 0 (p % n) && has m (p - 1))
   left =
       has_and (m * 2 ^ 1 % 2 ^ 64) (left_ones n) p
       ∙ ap₂ ◌&&◌ (has_shl m 1 64 p (omega (arith, small_board n small))) (has_set (n * n) _ p on)
-      ∙ by_left (leb 1 p) (has m (p - 1)) (ltb 0 (p % n)) (λ e. le-leb 1 p (omega (arith, ltb-true 0 (p % n) e, mod-le p n)))
+      ∙ grind (arith, nat_tests, mod-le p n)
 
   right : has (bit_and (m / 2 ^ 1) (right_ones n)) p ≡ (ltb (p % n + 1) n && has m (p + 1))
   right =
       has_and (m / 2 ^ 1) (right_ones n) p
       ∙ ap₂ ◌&&◌ (has_shr m 1 p ∙ ap (has m) (add_comm 1 p)) (has_set (n * n) _ p on)
-      ∙ swap (has m (p + 1)) (ltb (p % n + 1) n)
+      ∙ and_comm (has m (p + 1)) (ltb (p % n + 1) n)
 
   upright : has (bit_and (bit_or (m * 2 ^ n % 2 ^ 64) (m / 2 ^ n)) (points n)) p ≡ ((leb n p && has m (p - n)) || has m (p + n))
   upright =
       has_and (bit_or (m * 2 ^ n % 2 ^ 64) (m / 2 ^ n)) (points n) p
-      ∙ and_true _ _ (has_set (n * n) _ p on)
+      ∙ ap (λ b. has (bit_or (m * 2 ^ n % 2 ^ 64) (m / 2 ^ n)) p && b) (has_set (n * n) _ p on)
+      ∙ and-true _
       ∙ has_or (m * 2 ^ n % 2 ^ 64) (m / 2 ^ n) p
       ∙ ap₂ ◌||◌ (has_shl m n 64 p (omega (arith, small_board n small))) (has_shr m n p ∙ ap (has m) (add_comm n p))
 

@@ -1,64 +1,55 @@
 -- What growth reaches is what chains of neighbours reach.
 use Rattle.std.proofs.Common.{◌≡◌, ℕ, zero, suc, ◌+◌, ◌-◌, ◌*◌, ◌/◌, ◌%◌, ◌^◌, ◌<◌, ◌≤◌, true, ◌&&◌, ◌||◌, ltb, leb, sym, ap, ◌∙◌, subst, inl, inr, lt_of_le_of_lt, arith}
 use lib.Bits.{bit_and, bit_or, and_le_r}
+use Rattle.std.proofs.Math.Nat.{add-mod_right, add-div_right}
+use Rattle.std.proofs.lemmas.Nat.{div-add-mod', mod_below, div-mul-add, mod-mul-add}
 use Rattle.std.proofs.lemmas.Bool.{cases_eq, or_cases, or_left, or_right, and_parts, and_from, ltb-true, leb-true, lt-ltb, le-leb}
 use Rattle.point_sets.specs.Points.{has, set_of}
 use Rattle.go_rules.specs.Groups.{Neighbours, Joined, here, step, touches, around, grown, spread, reach, OnBoard, Chained}
 use Rattle.point_sets.proofs.Sets.{has_and, has_or, has_set, has_inside, set_lt}
 use Rattle.go_rules.proofs.Reach.{spread_stop, spread_go, grows, grown_le, grown_within, start_within}
 
--- what holds on each of the five boards
-by_size : (P : ℕ → Type 0) → P 3 → P 4 → P 5 → P 6 → P 7 → (n : ℕ) → 3 ≤ n → n ≤ 7 → P n
-by_size P a b c d e n low high =
-    elim (cases_eq n 3) [
-      | inl i ↦ subst P (sym i) a
-      | inr i ↦
-          elim (cases_eq n 4) [
-            | inl j ↦ subst P (sym j) b
-            | inr j ↦
-                elim (cases_eq n 5) [
-                  | inl k ↦ subst P (sym k) c
-                  | inr k ↦
-                      elim (cases_eq n 6) [
-                        | inl l ↦ subst P (sym l) d
-                        | inr l ↦
-                            let m : 7 ≡ n = omega arith in subst P m e
-                      ]
-                ]
-          ]
-    ]
+-- the row and the column of the points beside p, on a board of n lines
+module _ (n p : ℕ) (some : 0 < n) where
+  place : (q a b : ℕ) → q ≡ a * n + b → b < n → (q / n ≡ a) × (q % n ≡ b)
+  place q a b e h = (ap (λ (x : ℕ). x / n) e ∙ div-mul-add a n b h, ap (λ (x : ℕ). x % n) e ∙ mod-mul-add a n b h)
 
-left_of : (n : ℕ) → 3 ≤ n → n ≤ 7 → (p : ℕ) → 0 < p % n → ((p - 1) / n ≡ p / n) × ((p - 1) % n + 1 ≡ p % n)
-left_of = by_size (λ n. (p : ℕ) → 0 < p % n → ((p - 1) / n ≡ p / n) × ((p - 1) % n + 1 ≡ p % n))
-    (λ p h. omega arith) (λ p h. omega arith) (λ p h. omega arith) (λ p h. omega arith) (λ p h. omega arith)
+  left_of : 0 < p % n → ((p - 1) / n ≡ p / n) × ((p - 1) % n + 1 ≡ p % n)
+  left_of h =
+      let at = place (p - 1) (p / n) (p % n - 1) (omega (arith, div-add-mod' p n)) (omega (arith, mod_below p n some)) in
+      (at.0, omega (arith, at.1))
 
-right_of : (n : ℕ) → 3 ≤ n → n ≤ 7 → (p : ℕ) → p % n + 1 < n → ((p + 1) / n ≡ p / n) × (p % n + 1 ≡ (p + 1) % n)
-right_of = by_size (λ n. (p : ℕ) → p % n + 1 < n → ((p + 1) / n ≡ p / n) × (p % n + 1 ≡ (p + 1) % n))
-    (λ p h. omega arith) (λ p h. omega arith) (λ p h. omega arith) (λ p h. omega arith) (λ p h. omega arith)
+  right_of : p % n + 1 < n → ((p + 1) / n ≡ p / n) × (p % n + 1 ≡ (p + 1) % n)
+  right_of h =
+      let at = place (p + 1) (p / n) (p % n + 1) (omega (arith, div-add-mod' p n)) h in
+      (at.0, sym at.1)
 
-over_it : (n : ℕ) → 3 ≤ n → n ≤ 7 → (p : ℕ) → n ≤ p → ((p - n) % n ≡ p % n) × ((p - n) / n + 1 ≡ p / n)
-over_it = by_size (λ n. (p : ℕ) → n ≤ p → ((p - n) % n ≡ p % n) × ((p - n) / n + 1 ≡ p / n))
-    (λ p h. omega arith) (λ p h. omega arith) (λ p h. omega arith) (λ p h. omega arith) (λ p h. omega arith)
+  under_it : ((p + n) % n ≡ p % n) × (p / n + 1 ≡ (p + n) / n)
+  under_it = (add-mod_right p n, sym (add-div_right p some))
 
-under_it : (n : ℕ) → 3 ≤ n → n ≤ 7 → (p : ℕ) → ((p + n) % n ≡ p % n) × (p / n + 1 ≡ (p + n) / n)
-under_it = by_size (λ n. (p : ℕ) → ((p + n) % n ≡ p % n) × (p / n + 1 ≡ (p + n) / n))
-    (λ p. omega arith) (λ p. omega arith) (λ p. omega arith) (λ p. omega arith) (λ p. omega arith)
+over_it : (n p : ℕ) → 0 < n → n ≤ p → ((p - n) % n ≡ p % n) × ((p - n) / n + 1 ≡ p / n)
+over_it n p some h =
+    let e : (p - n) + n ≡ p = omega arith in
+    let at = under_it n (p - n) some in
+    (sym at.0 ∙ ap (λ (x : ℕ). x % n) e, at.1 ∙ ap (λ (x : ℕ). x / n) e)
 
-from_left : (n : ℕ) → 3 ≤ n → n ≤ 7 → (p q : ℕ) → q / n ≡ p / n → q % n + 1 ≡ p % n → (q ≡ p - 1) × (0 < p % n)
-from_left = by_size (λ n. (p q : ℕ) → q / n ≡ p / n → q % n + 1 ≡ p % n → (q ≡ p - 1) × (0 < p % n))
-    (λ p q h k. omega arith) (λ p q h k. omega arith) (λ p q h k. omega arith) (λ p q h k. omega arith) (λ p q h k. omega arith)
+-- and the places of the neighbours of p
+module _ (n p q : ℕ) where
+  from_left : q / n ≡ p / n → q % n + 1 ≡ p % n → (q ≡ p - 1) × (0 < p % n)
+  from_left h k = omega (arith, div-add-mod' p n, div-add-mod' q n, ap (λ (x : ℕ). x * n) h)
 
-from_right : (n : ℕ) → 3 ≤ n → n ≤ 7 → (p q : ℕ) → q / n ≡ p / n → p % n + 1 ≡ q % n → (q ≡ p + 1) × (p % n + 1 < n)
-from_right = by_size (λ n. (p q : ℕ) → q / n ≡ p / n → p % n + 1 ≡ q % n → (q ≡ p + 1) × (p % n + 1 < n))
-    (λ p q h k. omega arith) (λ p q h k. omega arith) (λ p q h k. omega arith) (λ p q h k. omega arith) (λ p q h k. omega arith)
+  from_right : q / n ≡ p / n → p % n + 1 ≡ q % n → q ≡ p + 1
+  from_right h k = omega (arith, div-add-mod' p n, div-add-mod' q n, ap (λ (x : ℕ). x * n) h)
 
-from_over : (n : ℕ) → 3 ≤ n → n ≤ 7 → (p q : ℕ) → q % n ≡ p % n → q / n + 1 ≡ p / n → (q ≡ p - n) × (n ≤ p)
-from_over = by_size (λ n. (p q : ℕ) → q % n ≡ p % n → q / n + 1 ≡ p / n → (q ≡ p - n) × (n ≤ p))
-    (λ p q h k. omega arith) (λ p q h k. omega arith) (λ p q h k. omega arith) (λ p q h k. omega arith) (λ p q h k. omega arith)
+  from_over : q % n ≡ p % n → q / n + 1 ≡ p / n → (q ≡ p - n) × (n ≤ p)
+  from_over h k = omega (arith, div-add-mod' p n, div-add-mod' q n, ap (λ (x : ℕ). x * n) k)
 
-from_under : (n : ℕ) → 3 ≤ n → n ≤ 7 → (p q : ℕ) → q % n ≡ p % n → p / n + 1 ≡ q / n → q ≡ p + n
-from_under = by_size (λ n. (p q : ℕ) → q % n ≡ p % n → p / n + 1 ≡ q / n → q ≡ p + n)
-    (λ p q h k. omega arith) (λ p q h k. omega arith) (λ p q h k. omega arith) (λ p q h k. omega arith) (λ p q h k. omega arith)
+  from_under : q % n ≡ p % n → p / n + 1 ≡ q / n → q ≡ p + n
+  from_under h k = omega (arith, div-add-mod' p n, div-add-mod' q n, ap (λ (x : ℕ). x * n) k)
+
+some_lines : (n p : ℕ) → p < n * n → 0 < n
+some_lines zero p h = absurd (omega arith)
+some_lines (suc n) p h = omega arith
 
 -- growth keeps what it began with
 pub spread_keeps : (n s k g q : ℕ) → bit_and g s ≡ g → has g q ≡ true → has (spread k n s g) q ≡ true
@@ -82,28 +73,29 @@ pub starts : (n s p q : ℕ) → Joined n s p q → has s p ≡ true
 starts n s p q (here i) = i
 starts n s p q (step {q = x} j b i) = starts n s p x j
 
-module _ (n : ℕ) (low : 3 ≤ n) (high : n ≤ 7) where
+module _ (n : ℕ) where
   -- a point that touches m has a neighbour in m
   touch_from : (m p : ℕ) → OnBoard n m → p < n * n → touches n m p ≡ true → (q : ℕ) × (has m q ≡ true) × Neighbours n q p
   touch_from m p on h e =
+      let some = some_lines n p h in
       elim (or_cases _ _ e) [
         | inl x ↦ elim (or_cases _ _ x) [
           | inl y ↦
               let z = and_parts _ _ y in
-              let w = left_of n low high p (ltb-true 0 (p % n) z.0) in
+              let w = left_of n p some (ltb-true 0 (p % n) z.0) in
               (p - 1, z.1, record { on_board = has_inside (n * n) m (p - 1) on z.1; there = h; near = inl (w.0, inl w.1) })
           | inr y ↦
               let z = and_parts _ _ y in
-              let w = right_of n low high p (ltb-true (p % n + 1) n z.0) in
+              let w = right_of n p some (ltb-true (p % n + 1) n z.0) in
               (p + 1, z.1, record { on_board = has_inside (n * n) m (p + 1) on z.1; there = h; near = inl (w.0, inr w.1) })
         ]
         | inr x ↦ elim (or_cases _ _ x) [
           | inl y ↦
               let z = and_parts _ _ y in
-              let w = over_it n low high p (leb-true n p z.0) in
+              let w = over_it n p some (leb-true n p z.0) in
               (p - n, z.1, record { on_board = has_inside (n * n) m (p - n) on z.1; there = h; near = inr (w.0, inl w.1) })
           | inr y ↦
-              let w = under_it n low high p in
+              let w = under_it n p some in
               (p + n, y, record { on_board = has_inside (n * n) m (p + n) on y; there = h; near = inr (w.0, inr w.1) })
         ]
       ]
@@ -113,18 +105,18 @@ module _ (n : ℕ) (low : 3 ≤ n) (high : n ≤ 7) where
       elim b.near [
         | inl x ↦ elim x.1 [
           | inl y ↦
-              let w = from_left n low high p q x.0 y in
+              let w = from_left n p q x.0 y in
               or_left _ _ (or_left _ _ (and_from _ _ (lt-ltb 0 (p % n) w.1) (ap (has m) (sym w.0) ∙ e)))
           | inr y ↦
-              let w = from_right n low high p q x.0 y in
-              or_left _ _ (or_right _ _ (and_from _ _ (lt-ltb (p % n + 1) n w.1) (ap (has m) (sym w.0) ∙ e)))
+              let low : p % n + 1 < n = omega (arith, mod_below q n (some_lines n q b.on_board)) in
+              or_left _ _ (or_right _ _ (and_from _ _ (lt-ltb (p % n + 1) n low) (ap (has m) (sym (from_right n p q x.0 y)) ∙ e)))
         ]
         | inr x ↦ elim x.1 [
           | inl y ↦
-              let w = from_over n low high p q x.0 y in
+              let w = from_over n p q x.0 y in
               or_right _ _ (or_left _ _ (and_from _ _ (le-leb n p w.1) (ap (has m) (sym w.0) ∙ e)))
           | inr y ↦
-              let w = from_under n low high p q x.0 y in
+              let w = from_under n p q x.0 y in
               or_right ((ltb 0 (p % n) && has m (p - 1)) || (ltb (p % n + 1) n && has m (p + 1))) _
               (or_right (leb n p && has m (p - n)) _ (ap (has m) (sym w) ∙ e))
         ]

@@ -3,7 +3,8 @@ use Rattle.std.proofs.Common.{◌≡◌, ℕ, zero, suc, ◌+◌, ◌*◌, ◌^�
 use native.Mathlib.Nat.{pow-le-pow_right}
 use lib.Bits.{or_lt}
 use Rattle.std.proofs.lemmas.Nat.{pow_below}
-use Rattle.std.proofs.lemmas.Bool.{eq-eqb, ne_eqb, true≢false, cases_Bool, and_parts}
+use Rattle.std.proofs.lemmas.Bool.Decides.{nat_tests}
+use Rattle.std.proofs.lemmas.Bool.{cond_both, eq-eqb, ne_eqb, true≢false, cases_Bool, and_parts}
 use Rattle.game.specs.declared.kinds.Side.{Side}
 use Rattle.game.specs.declared.kinds.Side.TheVariants.{Black, White}
 use Rattle.game.specs.declared.kinds.Score.{Score}
@@ -17,6 +18,7 @@ use Rattle.go_rules.specs.Rules.{free_of, with_stone, legal, move_set, all_live}
 use Rattle.go_rules.specs.Play.{place_of, win_for, moves_at, placed, after, standing, empty_ones, place_view, atari_go, Position}
 use Rattle.point_sets.proofs.Sets.{has_set, has_zero, has_or, has_pow}
 use Rattle.go_rules.proofs.Around.{small_board}
+use Rattle.go_rules.proofs.Liberties.{stone_on}
 use Rattle.point_sets.proofs.Lists.{length_le, length_sub, length-drop, member}
 
 -- a position, and the whole of it made again from its stones
@@ -33,14 +35,12 @@ placed_of n x good = record {
 }
 
 -- a legal move goes to an empty point
-pub legal_free : (n own foe p : ℕ) → p < n * n → has (move_set n own foe) p ≡ true → has (free_of n own foe) p ≡ true
+legal_free : (n own foe p : ℕ) → p < n * n → has (move_set n own foe) p ≡ true → has (free_of n own foe) p ≡ true
 unfolding move_set legal
 legal_free n own foe p h e =
     elim (cases_Bool (all_live n own foe)) [
-      | inl t ↦
-          (and_parts _ _ (sym (has_set (n * n) (legal n own foe) p h) ∙ ap (λ b. has (cond b (set_of (n * n) (legal n own foe)) 0) p) (sym t) ∙ e)).0
-      | inr t ↦
-          absurd (true≢false (sym e ∙ ap (λ b. has (cond b (set_of (n * n) (legal n own foe)) 0) p) t ∙ has_zero p))
+      | inl t ↦ grind (arith, has_set (n * n) (legal n own foe) p h)
+      | inr t ↦ grind (arith, has_zero p)
     ]
 
 empty_at : (n s t p : ℕ) → p < n * n → has (free_of n s t) p ≡ not (has s p || has t p)
@@ -50,65 +50,30 @@ empty_at n s t p h = has_set (n * n) (λ p. not (has s p || has t p)) p h
 stone_at : (s p q : ℕ) → has (with_stone s p) q ≡ (has s q || eqb q p)
 stone_at s p q = has_or s (2 ^ p) q ∙ ap (λ b. has s q || b) (has_pow p q)
 
-turned : (a b : Bool) → not (a || b) ≡ not (b || a)
-turned true true = refl
-turned true false = refl
-turned false true = refl
-turned false false = refl
-
 -- whose the stones are does not matter
 free_by_side : (c : Bool) (n b w p : ℕ) → p < n * n → has (free_of n (cond c b w) (cond c w b)) p ≡ has (free_of n b w) p
 free_by_side true n b w p h = refl
-free_by_side false n b w p h = empty_at n w b p h ∙ turned (has w p) (has b p) ∙ sym (empty_at n b w p h)
+free_by_side false n b w p h = grind (arith, empty_at n w b p h, empty_at n b w p h)
 
-filled : (c x y : Bool) → not (cond c (x || true) x || cond c y (y || true)) ≡ false
-filled true true y = refl
-filled true false y = refl
-filled false true y = refl
-filled false false true = refl
-filled false false false = refl
-
-kept : (c x y : Bool) → not (cond c (x || false) x || cond c y (y || false)) ≡ not (x || y)
-kept true true y = refl
-kept true false y = refl
-kept false true y = refl
-kept false false true = refl
-kept false false false = refl
-
-under_cond : (c : Bool) (a b q : ℕ) → has (cond c a b) q ≡ cond c (has a q) (has b q)
-under_cond true a b q = refl
-under_cond false a b q = refl
-
+-- the empty points after a stone on p
 next_empty : (c : Bool) (n b w p q : ℕ) → q < n * n →
-    has (free_of n (cond c (with_stone b p) b) (cond c w (with_stone w p))) q ≡ not (cond c (has b q || eqb q p) (has b q) || cond c (has w q) (has w q || eqb q p))
-next_empty c n b w p q h =
-    empty_at n _ _ q h
-    ∙ ap₂ (λ x y. not (x || y))
-    (under_cond c (with_stone b p) b q ∙ ap (λ x. cond c x (has b q)) (stone_at b p q))
-    (under_cond c w (with_stone w p) q ∙ ap (λ x. cond c (has w q) x) (stone_at w p q))
+    has (free_of n (cond c (with_stone b p) b) (cond c w (with_stone w p))) q ≡ not (has b q || has w q || eqb q p)
+next_empty true n b w p q h = grind (arith, empty_at n (with_stone b p) w q h, stone_at b p q)
+next_empty false n b w p q h = grind (arith, empty_at n b (with_stone w p) q h, stone_at w p q)
 
-pub level_drops : (n : ℕ) (x : Place) (p : ℕ) → p < n * n → has (free_of n x.black x.white) p ≡ true → empty_ones n (placed n x p) + 1 ≡ empty_ones n x
+level_drops : (n : ℕ) (x : Place) (p : ℕ) → p < n * n → has (free_of n x.black x.white) p ≡ true → empty_ones n (placed n x p) + 1 ≡ empty_ones n x
 level_drops n x p h free =
     let c = is_black x.side in
     let b = x.black in
     let w = x.white in
     length-drop (has (free_of n b w)) (has (free_of n (cond c (with_stone b p) b) (cond c w (with_stone w p)))) (n * n) p h free
-    (next_empty c n b w p p h ∙ ap (λ e. not (cond c (has b p || e) (has b p) || cond c (has w p) (has w p || e))) (eq-eqb p p refl) ∙ filled c (has b p) (has w p))
-    (λ q l ne.
-    empty_at n b w q l
-    ∙ sym (next_empty c n b w p q l ∙ ap (λ e. not (cond c (has b q || e) (has b q) || cond c (has w q) (has w q || e))) (ne_eqb q p ne) ∙ kept c (has b q) (has w q)))
+    (grind (arith, next_empty c n b w p p h, eq-eqb p p refl))
+    (λ q l ne. grind (arith, next_empty c n b w p q l, empty_at n b w q l, ne_eqb q p ne))
 
-cond_on : (c : Bool) (n a b : ℕ) → OnBoard n a → OnBoard n b → OnBoard n (cond c a b)
-cond_on true n a b h k = h
-cond_on false n a b h k = k
-
-stone_on : (n s p : ℕ) → p < n * n → OnBoard n s → OnBoard n (with_stone s p)
-stone_on n s p h on = or_lt (n * n) s (2 ^ p) on (pow_below p (n * n) h)
-
-pub placed_good : (n : ℕ) (x : Place) (p : ℕ) → Placed n x → p < n * n → Placed n (placed n x p)
+placed_good : (n : ℕ) (x : Place) (p : ℕ) → Placed n x → p < n * n → Placed n (placed n x p)
 placed_good n x p good h = record {
-  black = cond_on (is_black x.side) n _ _ (stone_on n x.black p h good.black) good.black;
-  white = cond_on (is_black x.side) n _ _ good.white (stone_on n x.white p h good.white);
+  black = cond_both (is_black x.side) _ _ (OnBoard n) (λ _. stone_on n x.black p h good.black) (λ _. good.black);
+  white = cond_both (is_black x.side) _ _ (OnBoard n) (λ _. good.white) (λ _. stone_on n x.white p h good.white);
   whole = refl;
 }
 
@@ -123,27 +88,10 @@ module _ (n : ℕ) (x : Place) (good : Placed n x) where
   pub moves_few : length (moves_at n x) ≤ empty_ones n x
   moves_few = length_sub (has x.moves) (has (free_of n x.black x.white)) (n * n) move_free
 
-  pub after_good : (k : ℕ) → k < length (moves_at n x) → Placed n (after n x k) × (empty_ones n (after n x k) + 1 ≡ empty_ones n x)
+  after_good : (k : ℕ) → k < length (moves_at n x) → Placed n (after n x k) × (empty_ones n (after n x k) + 1 ≡ empty_ones n x)
   after_good k h =
       let m = member (has x.moves) (n * n) k h in
       (placed_good n x _ good m.0, level_drops n x _ m.0 (move_free _ m.0 m.1))
-
--- the score of a line whose side on turn has m moves
-record Ends (m : ℕ) (win : Score) : Type 0 where
-  over : is_some (cond (eqb m 0) (Some win) None) ≡ true → m ≡ 0
-  going : is_some (cond (eqb m 0) (Some win) None) ≡ false → 0 < m
-
-ends : (m : ℕ) (win : Score) → Ends m win
-ends zero win = record {
-  over = λ i. refl;
-  going = λ i. absurd (true≢false i);
-}
-ends (suc m) win =
-    let no_end : eqb (suc m) 0 ≡ false = ne_eqb (suc m) 0 (omega arith) in
-    record {
-      over = λ i. absurd (true≢false (sym i ∙ ap (λ b. is_some (cond b (Some win) None)) no_end));
-      going = λ i. omega arith;
-    }
 
 -- the number of a side is 0 or 1, and tells it
 pub number_low : (s : Side) → number_of s ≤ 1
@@ -175,7 +123,6 @@ module _ (n : ℕ) (high : n ≤ 7) (start : Place) (good : Placed n start) wher
       let few = length_le (has x.moves) (n * n) in
       let low = length_le (has (free_of n x.black x.white)) (n * n) in
       let small = small_board n high in
-      let end = ends (length (moves_at n x)) (win_for (other x.side)) in
       let black = word x.black here.black in
       let white = word x.white here.white in
       let side = number_low x.side in
@@ -185,8 +132,8 @@ module _ (n : ℕ) (high : n ≤ 7) (start : Place) (good : Placed n start) wher
         b = omega arith;
         context = omega arith;
         level = omega arith;
-        over = end.over;
-        going = end.going;
+        over = λ e. grind (arith, nat_tests);
+        going = λ e. grind (arith, nat_tests);
       }
 
   -- equal words a and b are of one position

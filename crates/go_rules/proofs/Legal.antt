@@ -37,58 +37,22 @@ apart n q p b e =
       | inr x ↦ elim x.1 [ inl y ↦ omega arith | inr y ↦ omega arith ]
     ]
 
-still_free : (a b c : Bool) → not (a || b) ≡ true → c ≡ false → not ((a || c) || b) ≡ true
-still_free true b c e f = e
-still_free false b true e f = absurd (true≢false f)
-still_free false b false e f = e
-
 -- a free point with a free neighbour: a stone there has a liberty
-pub open_leaves : (n own foe p : ℕ) → 3 ≤ n → n ≤ 7 → has (around n (free_of n own foe)) p ≡ true → leaves_one n own foe p ≡ true
+pub open_leaves : (n own foe p : ℕ) → has (around n (free_of n own foe)) p ≡ true → leaves_one n own foe p ≡ true
 unfolding free_of living
-open_leaves n own foe p low high e =
+open_leaves n own foe p e =
     let f = λ (q : ℕ). not (has own q || has foe q) in
     let f' = λ (q : ℕ). not (has (with_stone own p) q || has foe q) in
-    let b = around_from n low high (set_of (n * n) f) p (set_lt (n * n) f) e in
+    let b = around_from n (set_of (n * n) f) p (set_lt (n * n) f) e in
     let q_on = b.2.on_board in
     let q_free : f b.0 ≡ true = sym (has_set (n * n) f b.0 q_on) ∙ b.1 in
-    let q_still : f' b.0 ≡ true =
-    ap (λ x. not (x || has foe b.0)) (has_or own (2 ^ p) b.0)
-    ∙ still_free (has own b.0) (has foe b.0) (has (2 ^ p) b.0) q_free
-    (has_pow p b.0 ∙ ne_eqb b.0 p (apart n b.0 p b.2)) in
+    let q_still : f' b.0 ≡ true = grind (arith, q_free, has_or own (2 ^ p) b.0, has_pow p b.0, ne_eqb b.0 p (apart n b.0 p b.2)) in
     reach_start n (with_stone own p) (around n (set_of (n * n) f')) p
-    (around_to n low high (set_of (n * n) f') p b.0 (has_set (n * n) f' b.0 q_on ∙ q_still) b.2)
+    (around_to n (set_of (n * n) f') p b.0 (has_set (n * n) f' b.0 q_on ∙ q_still) b.2)
     (has_or own (2 ^ p) p ∙ or_right _ _ (has_pow p p ∙ eq-eqb p p refl))
 
-pub open_legal : (n own foe p : ℕ) → 3 ≤ n → n ≤ 7 → has (bit_and (free_of n own foe) (around n (free_of n own foe))) p ≡ true → legal n own foe p ≡ true
+pub open_legal : (n own foe p : ℕ) → has (bit_and (free_of n own foe) (around n (free_of n own foe))) p ≡ true → legal n own foe p ≡ true
 unfolding legal may_fill
-open_legal n own foe p low high e =
+open_legal n own foe p e =
     let x = and_parts _ _ (sym (has_and (free_of n own foe) (around n (free_of n own foe)) p) ∙ e) in
-    and_from _ _ x.0 (or_left _ _ (open_leaves n own foe p low high x.1))
-
-pub not_free : (n own foe p : ℕ) → has (free_of n own foe) p ≡ false → legal n own foe p ≡ false
-unfolding legal
-not_free n own foe p e = and_left _ _ e
-
-pub by_fill : (n own foe p : ℕ) → has (free_of n own foe) p ≡ true → may_fill n own foe p ≡ legal n own foe p
-unfolding legal
-by_fill n own foe p e = ap (λ b. b && may_fill n own foe p) (sym e)
-
--- what may_fill works out
-pub fill_is :
-    (n own foe p at free mine theirs before : ℕ) (t : Bool) → at ≡ 2 ^ p → free ≡ free_of n (bit_or own at) foe →
-    mine ≡ living n (bit_or own at) free → t ≡ has mine p → theirs ≡ living n foe free → before ≡ living n foe (free_of n own foe) →
-    (t || not (eqb theirs before)) ≡ may_fill n own foe p
-unfolding may_fill
-fill_is n own foe p at free mine theirs before t at_is free_is mine_is t_is theirs_is before_is =
-    let mine' : mine ≡ living n (with_stone own p) (free_of n (with_stone own p) foe) = cc in
-    let theirs' : theirs ≡ living n foe (free_of n (with_stone own p) foe) = cc in
-    ap₂ (λ x y. x || not y) (t_is ∙ ap (λ (x : ℕ). has x p) mine') (ap₂ eqb theirs' before_is)
-
-pub dead_none : (n own foe live : ℕ) → live ≡ living n own (free_of n own foe) → (live ≡ own → ⊥) → 0 ≡ move_set n own foe
-unfolding move_set all_live
-dead_none n own foe live e no_own =
-    sym (cond-false (eqb (living n own (free_of n own foe)) own) _ 0 (ne_eqb _ own (λ k. no_own (e ∙ k))))
-
-pub live_all : (n own foe live : ℕ) → live ≡ living n own (free_of n own foe) → live ≡ own → set_of (n * n) (legal n own foe) ≡ move_set n own foe
-unfolding move_set all_live
-live_all n own foe live e all = sym (cond-true (eqb (living n own (free_of n own foe)) own) _ 0 (eq-eqb _ own (sym e ∙ all)))
+    and_from _ _ x.0 (or_left _ _ (open_leaves n own foe p x.1))

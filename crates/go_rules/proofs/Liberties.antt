@@ -1,5 +1,5 @@
 -- Liberties and legal moves, in the words of the game.
-use Rattle.std.proofs.Common.{◌≡◌, ℕ, ◌*◌, ◌%◌, ◌^◌, ◌<◌, ◌≤◌, Bool, true, false, cond, not, ◌||◌, ◌⊎◌, Decides, sym, refl, ap, ◌∙◌, subst, inl, inr, lt_of_le_of_lt}
+use Rattle.std.proofs.Common.{◌≡◌, ℕ, ◌*◌, ◌%◌, ◌^◌, ◌<◌, ◌≤◌, Bool, true, false, cond, not, ◌||◌, ◌⊎◌, Decides, sym, refl, ap, ◌∙◌, subst, inl, inr, lt_of_le_of_lt, arith}
 use lib.Bits.{or_lt}
 use Rattle.std.proofs.lemmas.Nat.{one_shl, pow_below, pow_pos}
 use Rattle.std.proofs.lemmas.Bool.Decides.{Decides-or}
@@ -29,14 +29,14 @@ joined_sym : (n s p q : ℕ) → Joined n s p q → Joined n s q p
 joined_sym n s p q (here i) = here i
 joined_sym n s p q (step {q = x} j b i) = in_front n s q x p i (near_sym n x q b) (joined_sym n s p x j)
 
-module _ (n : ℕ) (low : 3 ≤ n) (high : n ≤ 7) where
+module _ (n : ℕ) where
   pub living_is : (s f : ℕ) → OnBoard n s → OnBoard n f → Living n s f (living n s f)
   unfolding living
   living_is s f on_s on_f p =
-      let chained = reach_chained n low high s (around n f) on_s p in (
+      let chained = reach_chained n s (around n f) on_s p in (
         λ e.
             let j = chained.0 e in
-            let b = around_from n low high f j.0 on_f j.1 in
+            let b = around_from n f j.0 on_f j.1 in
             record {
               stone = j.0;
               liberty = b.0;
@@ -47,7 +47,7 @@ module _ (n : ℕ) (low : 3 ≤ n) (high : n ≤ 7) where
         λ h.
             chained.1 (
               h.stone,
-              around_to n low high f h.stone h.liberty h.free (near_sym n h.stone h.liberty h.next),
+              around_to n f h.stone h.liberty h.free (near_sym n h.stone h.liberty h.next),
               joined_sym n s p h.stone h.joined,
             ),
       )
@@ -63,13 +63,8 @@ pub free_on : (n s t : ℕ) → OnBoard n (free_of n s t)
 unfolding free_of
 free_on n s t = set_lt (n * n) _
 
-stone_on : (n s p : ℕ) → p < n * n → OnBoard n s → OnBoard n (with_stone s p)
+pub stone_on : (n s p : ℕ) → p < n * n → OnBoard n s → OnBoard n (with_stone s p)
 stone_on n s p h on = or_lt (n * n) s (2 ^ p) on (pow_below p (n * n) h)
-
-less_free : (a b c : Bool) → not ((a || b) || c) ≡ true → not (a || c) ≡ true
-less_free true b c e = e
-less_free false true c e = absurd (true≢false (sym e))
-less_free false false c e = e
 
 -- a stone more leaves no more points free
 was_free : (n own foe p r : ℕ) → has (free_of n (with_stone own p) foe) r ≡ true → has (free_of n own foe) r ≡ true
@@ -77,16 +72,14 @@ unfolding free_of
 was_free n own foe p r e =
     let f = λ (q : ℕ). not (has (with_stone own p) q || has foe q) in
     let h : r < n * n = has_inside (n * n) (set_of (n * n) f) r (set_lt (n * n) f) e in
-    has_set (n * n) (λ q. not (has own q || has foe q)) r h
-    ∙ less_free (has own r) (has (2 ^ p) r) (has foe r)
-    (ap (λ b. not (b || has foe r)) (sym (has_or own (2 ^ p) r)) ∙ sym (has_set (n * n) f r h) ∙ e)
+    grind (arith, has_set (n * n) f r h, has_set (n * n) (λ q. not (has own q || has foe q)) r h, has_or own (2 ^ p) r)
 
-module _ (n : ℕ) (low : 3 ≤ n) (high : n ≤ 7) (own foe : ℕ) (on_own : OnBoard n own) (on_foe : OnBoard n foe) where
+module _ (n own foe : ℕ) (on_own : OnBoard n own) (on_foe : OnBoard n foe) where
   foe_before : Living n foe (free_of n own foe) (living n foe (free_of n own foe))
-  foe_before = living_is n low high foe (free_of n own foe) on_foe (free_on n own foe)
+  foe_before = living_is n foe (free_of n own foe) on_foe (free_on n own foe)
 
   foe_after : (p : ℕ) → Living n foe (free_of n (with_stone own p) foe) (living n foe (free_of n (with_stone own p) foe))
-  foe_after p = living_is n low high foe (free_of n (with_stone own p) foe) on_foe (free_on n (with_stone own p) foe)
+  foe_after p = living_is n foe (free_of n (with_stone own p) foe) on_foe (free_on n (with_stone own p) foe)
 
   takes_is : (p : ℕ) → Decides (takes_last n own foe p) (Takes n own foe p)
   takes_is p =
@@ -95,7 +88,7 @@ module _ (n : ℕ) (low : 3 ≤ n) (high : n ≤ 7) (own foe : ℕ) (on_own : On
         λ e.
             elim (cases_differ (n * n) later before) [
               | inl same ↦
-                  let equal = same_set (n * n) later before (living_on n low high foe _ on_foe) (living_on n low high foe _ on_foe) same in
+                  let equal = same_set (n * n) later before (living_on n foe _ on_foe) (living_on n foe _ on_foe) same in
                   absurd (true≢false (sym e ∙ ap not (eq-eqb later before equal)))
               | inr d ↦ elim d.2 [
                 | inl x ↦
@@ -124,14 +117,14 @@ module _ (n : ℕ) (low : 3 ≤ n) (high : n ≤ 7) (own foe : ℕ) (on_own : On
   unfolding all_live
   all_live_lem =
       let live = living n own (free_of n own foe) in
-      let is = living_is n low high own (free_of n own foe) on_own (free_on n own foe) in (
+      let is = living_is n own (free_of n own foe) on_own (free_on n own foe) in (
         λ e q h. (is q).0 (ap (λ (m : ℕ). has m q) (eqb-true live own e) ∙ h),
         λ each.
-            eq-eqb live own (same_set (n * n) live own (living_on n low high own _ on_own) on_own (λ p h.
+            eq-eqb live own (same_set (n * n) live own (living_on n own _ on_own) on_own (λ p h.
             elim (cases_Bool (has own p)) [
               | inl x ↦ (is p).1 (each p x) ∙ sym x
               | inr x ↦ elim (cases_Bool (has live p)) [
-                | inl y ↦ absurd (true≢false (sym (own_stone n low high own (free_of n own foe) p on_own ((is p).0 y)) ∙ x))
+                | inl y ↦ absurd (true≢false (sym (own_stone n own (free_of n own foe) p on_own ((is p).0 y)) ∙ x))
                 | inr y ↦ y ∙ sym x
               ]
             ])),
@@ -143,11 +136,11 @@ module _ (n : ℕ) (low : 3 ≤ n) (high : n ≤ 7) (own foe : ℕ) (on_own : On
       ⊎ ((q : ℕ) × (has own q ≡ true) × (HasLiberty n own (free_of n own foe) q → ⊥))
   alive_or_not =
       let live = living n own (free_of n own foe) in
-      let is = living_is n low high own (free_of n own foe) on_own (free_on n own foe) in
+      let is = living_is n own (free_of n own foe) on_own (free_on n own foe) in
       elim (cases_differ (n * n) live own) [
         | inl same ↦ inl (λ q h. (is q).0 (same q (has_inside (n * n) own q on_own h) ∙ h))
         | inr d ↦ elim d.2 [
-          | inl x ↦ absurd (true≢false (sym (own_stone n low high own (free_of n own foe) d.0 on_own ((is d.0).0 x.0)) ∙ x.1))
+          | inl x ↦ absurd (true≢false (sym (own_stone n own (free_of n own foe) d.0 on_own ((is d.0).0 x.0)) ∙ x.1))
           | inr x ↦ inr (d.0, x.1, λ h. true≢false (sym ((is d.0).1 h) ∙ x.0))
         ]
       ]
@@ -155,7 +148,7 @@ module _ (n : ℕ) (low : 3 ≤ n) (high : n ≤ 7) (own foe : ℕ) (on_own : On
   legal_is : (p : ℕ) → p < n * n → Decides (legal n own foe p) (LegalMove n own foe p)
   unfolding legal may_fill
   legal_is p h =
-      let own_after = living_is n low high (with_stone own p) (free_of n (with_stone own p) foe) (stone_on n own p h on_own) (free_on n (with_stone own p) foe) p in
+      let own_after = living_is n (with_stone own p) (free_of n (with_stone own p) foe) (stone_on n own p h on_own) (free_on n (with_stone own p) foe) p in
       let fill = Decides-or (leaves_one n own foe p) (takes_last n own foe p) own_after (takes_is p) in
       let free = has (free_of n own foe) p in (
         λ e. let x = and_parts free _ e in record { empty = x.0; fair = fill.0 x.1 },
@@ -184,8 +177,8 @@ module _ (n : ℕ) (low : 3 ≤ n) (high : n ≤ 7) (own foe : ℕ) (on_own : On
       ]
 
 -- the same of a set that a program found
-pub moves_found : (n own foe r : ℕ) → 3 ≤ n → n ≤ 7 → r ≡ move_set n own foe → OnBoard n own → OnBoard n foe → Moves n own foe r
-moves_found n own foe r low high e on_own on_foe = subst (Moves n own foe) (sym e) (moves_are n low high own foe on_own on_foe)
+pub moves_found : (n own foe r : ℕ) → r ≡ move_set n own foe → OnBoard n own → OnBoard n foe → Moves n own foe r
+moves_found n own foe r e on_own on_foe = subst (Moves n own foe) (sym e) (moves_are n own foe on_own on_foe)
 
 -- the group of a stone, as a program finds it
 pub group_found : (n s p : ℕ) → has s p ≡ true → p < 64 → reach n s (1 * 2 ^ p % 2 ^ 64) ≡ group_of n s p
@@ -198,13 +191,13 @@ group_empty n s p q t = (
 )
 
 -- the group of one point, and its liberties
-module _ (n : ℕ) (low : 3 ≤ n) (high : n ≤ 7) (s p : ℕ) (on : OnBoard n s) where
+module _ (n s p : ℕ) (on : OnBoard n s) where
   pub group_is : Group n s p (group_of n s p)
   group_is q =
       elim (cases_Bool (has s p)) [
         | inl t ↦
             let is = ap (λ b. cond b (reach n s (2 ^ p)) 0) t in
-            let chained = reach_chained n low high s (2 ^ p) on q in (
+            let chained = reach_chained n s (2 ^ p) on q in (
               λ e.
                   let j = chained.0 (ap (λ (m : ℕ). has m q) (sym is) ∙ e) in
                   subst (λ (x : ℕ). Joined n s x q) (eqb-true j.0 p (sym (has_pow p j.0) ∙ j.1)) j.2,
@@ -230,8 +223,8 @@ module _ (n : ℕ) (low : 3 ≤ n) (high : n ≤ 7) (s p : ℕ) (on : OnBoard n 
       let g = group_of n s p in (
         λ e.
             let x = and_parts _ _ (sym (has_and f (around n g) q) ∙ e) in
-            let b = around_from n low high g q group_on x.1 in
+            let b = around_from n g q group_on x.1 in
             (x.0, (b.0, (group_is b.0).0 b.1, b.2)),
         λ l.
-            has_and f (around n g) q ∙ and_from _ _ l.0 (around_to n low high g q l.1.0 ((group_is l.1.0).1 l.1.1) l.1.2),
+            has_and f (around n g) q ∙ and_from _ _ l.0 (around_to n g q l.1.0 ((group_is l.1.0).1 l.1.1) l.1.2),
       )

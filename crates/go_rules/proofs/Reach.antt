@@ -1,58 +1,37 @@
 -- Growth within a set comes to an end, and what it ends with.
-use Rattle.std.proofs.Common.{◌≡◌, ℕ, zero, suc, ◌+◌, ◌-◌, ◌<◌, ◌≤◌, Bool, true, false, ◌&&◌, ◌||◌, sym, refl, ap, ◌∙◌, subst, inl, inr, arith}
+use Rattle.std.proofs.Common.{◌≡◌, ℕ, zero, suc, ◌+◌, ◌-◌, ◌<◌, ◌≤◌, sym, refl, ap, ◌∙◌, subst, inl, inr, arith}
 use lib.Bits.{bit_and, bit_or, and_le_l, and_le_r, and_comm}
 use Rattle.std.proofs.lemmas.Bool.{eq-eqb, ne_eqb, cases_eq}
 use Rattle.point_sets.specs.Points.{has}
 use Rattle.go_rules.specs.Groups.{around, grown, spread, reach}
 use Rattle.point_sets.proofs.Sets.{has_and, has_or, same_bits}
 
-absorbs : (x s y : Bool) → (x && s) ≡ x → (x && (s && (x || y))) ≡ x
-absorbs true true y e = refl
-absorbs true false y e = e
-absorbs false s y e = refl
-
-within : (s x : Bool) → ((s && x) && s) ≡ (s && x)
-within true true = refl
-within true false = refl
-within false x = refl
-
 -- what lies within s grows within s
+and_within : (s x : ℕ) → bit_and (bit_and s x) s ≡ bit_and s x
+and_within s x = same_bits (bit_and (bit_and s x) s) (bit_and s x) (λ p. grind (arith, has_and (bit_and s x) s p, has_and s x p))
+
 pub grown_within : (n s g : ℕ) → bit_and (grown n s g) s ≡ grown n s g
-grown_within n s g =
-    same_bits (bit_and (grown n s g) s) (grown n s g) (λ p.
-    has_and (grown n s g) s p
-    ∙ ap (λ b. b && has s p) (has_and s (bit_or g (around n g)) p)
-    ∙ within (has s p) (has (bit_or g (around n g)) p)
-    ∙ sym (has_and s (bit_or g (around n g)) p))
+grown_within n s g = and_within s (bit_or g (around n g))
+
+pub start_within : (s f : ℕ) → bit_and (bit_and f s) s ≡ bit_and f s
+start_within s f = ap (λ (x : ℕ). bit_and x s) (and_comm f s) ∙ and_within s f ∙ and_comm s f
 
 pub grows : (n s g : ℕ) → bit_and g s ≡ g → g ≤ grown n s g
 grows n s g e =
-    let same : bit_and g (grown n s g) ≡ g = same_bits (bit_and g (grown n s g)) g (λ p.
-    has_and g (grown n s g) p
-    ∙ ap (λ b. has g p && b) (has_and s (bit_or g (around n g)) p ∙ ap (λ b. has s p && b) (has_or g (around n g) p))
-    ∙ absorbs (has g p) (has s p) (has (around n g) p) (sym (has_and g s p) ∙ ap (λ (x : ℕ). has x p) e)) in
-    subst (λ (x : ℕ). x ≤ grown n s g) same (and_le_r g (grown n s g))
+    let m = bit_or g (around n g) in
+    let same : bit_and g (grown n s g) ≡ g = same_bits (bit_and g (bit_and s m)) g (λ p.
+    grind (arith, has_and g (bit_and s m) p, has_and s m p, has_or g (around n g) p, has_and g s p, ap (λ (x : ℕ). has x p) e)) in
+    omega (arith, and_le_r g (grown n s g))
 
 pub grown_le : (n s g : ℕ) → grown n s g ≤ s
 grown_le n s g = and_le_l s (bit_or g (around n g))
 
-pub start_within : (s f : ℕ) → bit_and (bit_and f s) s ≡ bit_and f s
-start_within s f = ap (λ (x : ℕ). bit_and x s) (and_comm f s) ∙ and_twice ∙ and_comm s f
-  where
-    and_twice : bit_and (bit_and s f) s ≡ bit_and s f
-    and_twice =
-        same_bits (bit_and (bit_and s f) s) (bit_and s f) (λ p.
-        has_and (bit_and s f) s p ∙ ap (λ b. b && has s p) (has_and s f p) ∙ within (has s p) (has f p) ∙ sym (has_and s f p))
-
-abbrev chosen : Bool → ℕ → ℕ → ℕ
-chosen b x y = elim b [ true ↦ x | false ↦ y ]
-
 pub spread_stop : (k n s g : ℕ) → grown n s g ≡ g → spread k n s g ≡ g
 spread_stop zero n s g e = refl
-spread_stop (suc k) n s g e = ap (λ b. chosen b g (spread k n s (grown n s g))) (eq-eqb (grown n s g) g e)
+spread_stop (suc k) n s g e = rw (eq-eqb (grown n s g) g e, spread)
 
 pub spread_go : (k n s g : ℕ) → (grown n s g ≡ g → ⊥) → spread (suc k) n s g ≡ spread k n s (grown n s g)
-spread_go k n s g e = ap (λ b. chosen b g (spread k n s (grown n s g))) (ne_eqb (grown n s g) g e)
+spread_go k n s g e = rw (ne_eqb (grown n s g) g e, spread)
 
 -- more growths than are left change nothing
 enough : (k n s g : ℕ) → bit_and g s ≡ g → s ≤ g + k → spread (suc k) n s g ≡ spread k n s g

@@ -1,9 +1,9 @@
 -- The game is told by the rules.
 use Rattle.std.proofs.Common.{◌≡◌, ℕ, ◌*◌, ◌<◌, ◌≤◌, true, eqb, length, get_or, Some, None, Option, sym, refl, ap, ◌∙◌, subst, inl, inr, arith}
-use Rattle.std.proofs.lemmas.Bool.{cases_lt, cond-true, eq-eqb}
+use Rattle.std.proofs.lemmas.Bool.{cases_lt, cond_both, cond-true, eq-eqb}
 use Rattle.game.specs.declared.kinds.Side.{Side}
 use Rattle.game.specs.declared.kinds.Side.TheVariants.{Black, White}
-use Rattle.game.specs.Kinds.{other}
+use Rattle.game.specs.Kinds.{is_black, other}
 use Rattle.game.specs.Meaning.{Line, Reachable}
 use Rattle.point_sets.specs.Points.{has, list_of}
 use Rattle.point_sets.proofs.Sets.{has_inside}
@@ -37,10 +37,9 @@ kept Black b w p = refl
 kept White b w p = refl
 
 side_on : (s : Side) (n a b : ℕ) → OnBoard n a → OnBoard n b → OnBoard n (by_side s a b)
-side_on Black n a b h k = h
-side_on White n a b h k = k
+side_on s n a b h k = cond_both (is_black s) a b (OnBoard n) (λ _. h) (λ _. k)
 
-module _ (n : ℕ) (low : 3 ≤ n) (high : n ≤ 7) (start : Place) (good : Placed n start) (l : Line) (reached : Reachable (atari_go n start) l) where
+module _ (n : ℕ) (high : n ≤ 7) (start : Place) (good : Placed n start) (l : Line) (reached : Reachable (atari_go n start) l) where
   here : Placed n (standing n start l)
   here = (reached_good n high start good l reached).0
 
@@ -55,7 +54,7 @@ module _ (n : ℕ) (low : 3 ≤ n) (high : n ≤ 7) (start : Place) (good : Plac
   are =
       let s = (standing n start l).side in
       subst (Moves n own foe) (sym (ap (λ (y : Place). y.moves) here.whole))
-      (moves_are n low high own foe (side_on s n _ _ here.black here.white) (side_on s n _ _ here.white here.black))
+      (moves_are n own foe (side_on s n _ _ here.black here.white) (side_on s n _ _ here.white here.black))
 
   legal_at : (k : ℕ) → k < length (moves_at n (standing n start l)) → Alive n own foe × LegalMove n own foe (get_or (moves_at n (standing n start l)) k 0)
   legal_at k h = (are (get_or (moves_at n (standing n start l)) k 0)).0 (member (has (standing n start l).moves) (n * n) k h).1
@@ -72,7 +71,7 @@ module _ (n : ℕ) (low : 3 ≤ n) (high : n ≤ 7) (start : Place) (good : Plac
   unfolding own foe
   lost_at none =
       let s = (standing n start l).side in
-      elim (alive_or_not n low high own foe (side_on s n _ _ here.black here.white) (side_on s n _ _ here.white here.black)) [
+      elim (alive_or_not n own foe (side_on s n _ _ here.black here.white) (side_on s n _ _ here.white here.black)) [
         | inl alive ↦ inr (λ p legal. omega (arith, (every_at p alive legal).1))
         | inr taken ↦ inl taken
       ]
@@ -111,10 +110,10 @@ module _ (n : ℕ) (low : 3 ≤ n) (high : n ≤ 7) (start : Place) (good : Plac
 
 fine : (o d : Option ℕ) → first_fault o d ≡ None → o ≡ None
 fine None d e = refl
-fine (Some i) d e = let z : ◌≡◌ {A = ℕ} 0 1 = cc in absurd (omega arith)
+fine (Some i) d e = cc
 
 pub all_told : ToldByRules
 all_told t e l reached =
     let form = in_form t (fine (text_fault t) _ e) in
     let good = placed_of (lines_of t) (start_of t) (start_good t (lines_of t) (start_of t) (record { lines = refl; start = refl })) in
-    told_by_rules (lines_of t) form.low form.high (start_of t) good l reached
+    told_by_rules (lines_of t) form.high (start_of t) good l reached

@@ -4,7 +4,7 @@ use Rattle.std.specs.List.{find, position_from, enumerate_from, range_with_len}
 use Rattle.std.specs.Option.{option_or}
 use Rattle.std.specs.Bool.{then_some}
 use Rattle.game.specs.declared.kinds.Side.{Side}
-use Rattle.std.proofs.lemmas.Bool.{and_parts, leb-true, ltb-false}
+use Rattle.std.proofs.lemmas.Bool.Decides.{nat_tests}
 use Rattle.go_rules.specs.Text.{fits_at, first_unfit, lines_of, text_fault, stones_of, side_of, dead_set, first_of, dead_point, start_of, first_fault, read_fault, Told}
 use Rattle.go_rules.specs.declared.place.Place.{Place}
 use Rattle.go_rules.specs.Play.{place_of, Position}
@@ -49,15 +49,10 @@ pub record InForm (t : List ℕ) : Type 0 where
   pub high : lines_of t ≤ 7
 
 fit_head : (b : Bool) (r : Option ℕ) (i : ℕ) → cond b r (Some i) ≡ None → (b ≡ true) × (r ≡ None)
-fit_head true r i e = (refl, e)
-fit_head false r i e = let z : ◌≡◌ {A = ℕ} 0 1 = cc in absurd (omega arith)
-
-not_some : (b : Bool) (i : ℕ) → cond b (Some i) None ≡ None → b ≡ false
-not_some true i e = let z : ◌≡◌ {A = ℕ} 0 1 = cc in absurd (omega arith)
-not_some false i e = refl
+fit_head b r i e = grind arith
 
 long_tail : (n i : ℕ) (t : List ℕ) → first_unfit n i t ≡ None → 5 + n * n ≤ i + length t
-long_tail n i [] e = omega (arith, ltb-false i (5 + n * n) (not_some (ltb i (5 + n * n)) i e))
+long_tail n i [] e = grind (arith, nat_tests)
 long_tail n i (b ∷ t) e = omega (arith, long_tail n (i + 1) t (fit_head (fits_at n i b) (first_unfit n (i + 1) t) i e).1)
 
 lines_low : (n : ℕ) (t : List ℕ) → first_unfit n 0 t ≡ None → (51 ≤ get_or t 1 0) × (get_or t 1 0 ≤ 55)
@@ -66,8 +61,7 @@ lines_low n (a ∷ []) e = absurd (omega (arith, long_tail n 0 (a ∷ []) e))
 lines_low n (a ∷ (b ∷ t)) e =
     let rest = (fit_head (fits_at n 0 a) (first_unfit n 1 (b ∷ t)) 0 e).1 in
     let fit = (fit_head (fits_at n 1 b) (first_unfit n 2 t) 1 rest).0 in
-    let both = and_parts (leb 51 b) (leb b 55) fit in
-    (leb-true 51 b both.0, leb-true b 55 both.1)
+    grind (arith, nat_tests)
 
 pub in_form : (t : List ℕ) → text_fault t ≡ None → InForm t
 in_form t e =

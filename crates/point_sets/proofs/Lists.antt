@@ -6,68 +6,60 @@ use Rattle.std.proofs.lemmas.List.FromFn.{filter_of_map_range_with_len_more}
 use lib.Bits.{bit_and}
 use Rattle.std.proofs.lemmas.Nat.{one_shl, pow_pos, and_mask}
 use lib.Count.{ones, ones_cat}
-use Rattle.std.proofs.lemmas.List.{map-id, length-append, get_or_append_left, get_or_push, get_or_past}
+use Rattle.std.proofs.lemmas.List.{map-id, append-nil, length_push, get_or_append_left, get_or_push, get_or_past}
 use Rattle.std.proofs.lemmas.Bool.{cases_lt, cases_Bool, cases_eq}
 use Rattle.point_sets.specs.Points.{has, set_of, list_of}
 use Rattle.point_sets.proofs.Sets.{has_set, has_mod, set_lt, same_set, next_set}
 
-ones_0 : ones 0 ≡ 0
-unfolding ones
-ones_0 = refl
-
-ones_1 : ones 1 ≡ 1
-unfolding ones
-ones_1 = refl
-
 module _ (f : ℕ → Bool) where
-  pub length_in : (p : ℕ) → f p ≡ true → length (list_of (suc p) f) ≡ length (list_of p f) + 1
-  length_in p e =
-      ap (λ b. length (list_of p f ++ cond b (p ∷ []) [])) e ∙ length-append (list_of p f) (p ∷ [])
-
-  pub length_out : (p : ℕ) → f p ≡ false → length (list_of (suc p) f) ≡ length (list_of p f)
-  length_out p e =
-      ap (λ b. length (list_of p f ++ cond b (p ∷ []) [])) e ∙ length-append (list_of p f) [] ∙ omega arith
-
-  pub length_more : (p : ℕ) → length (list_of p f) ≤ length (list_of (suc p) f)
-  length_more p = elim (cases_Bool (f p)) [ inl e ↦ omega (arith, length_in p e) | inr e ↦ omega (arith, length_out p e) ]
-
-  pub length_mono : (p d : ℕ) → length (list_of p f) ≤ length (list_of (p + d) f)
-  length_mono p zero = rw add-zero (omega arith)
-  length_mono p (suc d) = rw add-suc (omega (arith, length_mono p d, length_more (p + d)))
+  length_step : (p : ℕ) → length (list_of (suc p) f) ≡ length (list_of p f) + cond (f p) 1 0
+  length_step p =
+      elim (f p) as (λ b. length (list_of p f ++ cond b (p ∷ []) []) ≡ length (list_of p f) + cond b 1 0) [
+        | true ↦ length_push (list_of p f) p
+        | false ↦ ap length (append-nil (list_of p f)) ∙ omega arith
+      ]
 
   pub length_le : (p : ℕ) → length (list_of p f) ≤ p
   length_le zero = omega arith
-  length_le (suc p) = elim (cases_Bool (f p)) [ inl e ↦ omega (arith, length_in p e, length_le p) | inr e ↦ omega (arith, length_out p e, length_le p) ]
+  length_le (suc p) = grind (arith, length_step p, length_le p)
+
+  -- the place of a point is below the length
+  pub place_low : (s p : ℕ) → p < s → f p ≡ true → length (list_of p f) < length (list_of s f)
+  place_low zero p h e = absurd (omega arith)
+  place_low (suc s) p h e =
+      elim (cases_lt p s) [
+        | inl l ↦ omega (arith, length_step s, place_low s p l e)
+        | inr g ↦ let same : p ≡ s = omega arith in grind (arith, length_step s)
+      ]
 
   -- the place of a point is the number of the points before it
   pub place_of : (s p : ℕ) → p < s → f p ≡ true → get_or (list_of s f) (length (list_of p f)) 0 ≡ p
   place_of zero p h e = absurd (omega arith)
   place_of (suc s) p h e =
       elim (cases_lt p s) [
-        | inl l ↦
-            let sum : s ≡ suc p + (s - suc p) = omega arith in
-            let up : length (list_of (suc p) f) ≤ length (list_of s f) =
-            subst (λ (x : ℕ). length (list_of (suc p) f) ≤ length (list_of x f)) (sym sum) (length_mono (suc p) (s - suc p)) in
-            get_or_append_left (list_of s f) _ 0 (length (list_of p f)) (omega (arith, length_in p e, up)) ∙ place_of s p l e
+        | inl l ↦ get_or_append_left (list_of s f) _ 0 (length (list_of p f)) (place_low s p l e) ∙ place_of s p l e
         | inr g ↦
             let same : s ≡ p = omega arith in
             subst (λ (x : ℕ). get_or (list_of (suc x) f) (length (list_of p f)) 0 ≡ p) (sym same)
             (ap (λ b. get_or (list_of p f ++ cond b (p ∷ []) []) (length (list_of p f)) 0) e ∙ get_or_push (list_of p f) p 0 (length (list_of p f)) refl)
       ]
 
-  pub ones_set : (k : ℕ) → ones (set_of k f) ≡ length (list_of k f)
-  ones_set zero = ones_0
+  ones_bit : (b : Bool) → ones (cond b 1 0) ≡ cond b 1 0
+  unfolding ones
+  ones_bit true = refl
+  ones_bit false = refl
+
+  ones_set : (k : ℕ) → ones (set_of k f) ≡ length (list_of k f)
+  unfolding ones
+  ones_set zero = refl
   ones_set (suc k) =
       ap ones (next_set k f) ∙ ones_cat k (cond (f k) 1 0) (set_of k f) (set_lt k f)
-      ∙ elim (cases_Bool (f k)) [
-        | inl e ↦ ap (λ b. ones (cond b 1 0) + ones (set_of k f)) e ∙ omega (arith, ones_1, length_in k e, ones_set k)
-        | inr e ↦ ap (λ b. ones (cond b 1 0) + ones (set_of k f)) e ∙ omega (arith, ones_0, length_out k e, ones_set k)
-      ]
+      ∙ omega (arith, ones_bit (f k), length_step k, ones_set k)
 
-pub set_of_has : (k m : ℕ) → m < 2 ^ k → set_of k (has m) ≡ m
+set_of_has : (k m : ℕ) → m < 2 ^ k → set_of k (has m) ≡ m
 set_of_has k m h = same_set k (set_of k (has m)) m (set_lt k (has m)) h (λ p l. has_set k (has m) p l)
 
-pub ones_list : (k m : ℕ) → m < 2 ^ k → ones m ≡ length (list_of k (has m))
+ones_list : (k m : ℕ) → m < 2 ^ k → ones m ≡ length (list_of k (has m))
 ones_list k m h = ap ones (sym (set_of_has k m h)) ∙ ones_set (has m) k
 
 -- the points below s, as a program goes over them
@@ -89,10 +81,10 @@ member f (suc s) k h =
           subst (λ (x : ℕ). (x < suc s) × (f x ≡ true)) (sym e) (omega (arith, ih.0), ih.1)
       | inr g ↦ elim (cases_Bool (f s)) [
         | inl t ↦
-            let same : length (list_of s f) ≡ k = omega (arith, length_in f s t) in
+            let same : length (list_of s f) ≡ k = grind (arith, length_step f s) in
             let e : get_or (list_of (suc s) f) k 0 ≡ s = ap (λ b. get_or (list_of s f ++ cond b (s ∷ []) []) k 0) t ∙ get_or_push (list_of s f) s 0 k same in
             subst (λ (x : ℕ). (x < suc s) × (f x ≡ true)) (sym e) (omega arith, t)
-        | inr t ↦ absurd (omega (arith, length_out f s t))
+        | inr t ↦ absurd (grind (arith, length_step f s))
       ]
     ]
 
@@ -101,20 +93,15 @@ pub length_sub : (f g : ℕ → Bool) (s : ℕ) → ((p : ℕ) → p < s → f p
 length_sub f g zero h = omega arith
 length_sub f g (suc s) h =
     let ih = length_sub f g s (λ p l. h p (omega arith)) in
-    elim (cases_Bool (f s)) [
-      | inl e ↦ omega (arith, length_in f s e, length_in g s (h s (omega arith) e))
-      | inr e ↦ elim (cases_Bool (g s)) [
-        | inl d ↦ omega (arith, length_out f s e, length_in g s d)
-        | inr d ↦ omega (arith, length_out f s e, length_out g s d)
-      ]
-    ]
+    let here = h s (omega arith) in
+    grind (arith, length_step f s, length_step g s)
 
 -- equal tests pass at the same points
 pub list_same : (f g : ℕ → Bool) (s : ℕ) → ((p : ℕ) → p < s → f p ≡ g p) → list_of s f ≡ list_of s g
 list_same f g zero h = refl
 list_same f g (suc s) h = ap₂ (λ l b. l ++ cond b (s ∷ []) []) (list_same f g s (λ p l. h p (omega arith))) (h s (omega arith))
 
-pub length_same : (f g : ℕ → Bool) (s : ℕ) → ((p : ℕ) → p < s → f p ≡ g p) → length (list_of s f) ≡ length (list_of s g)
+length_same : (f g : ℕ → Bool) (s : ℕ) → ((p : ℕ) → p < s → f p ≡ g p) → length (list_of s f) ≡ length (list_of s g)
 length_same f g s h = ap length (list_same f g s h)
 
 -- a test that passes at all the same points but p passes once less
@@ -123,15 +110,11 @@ length-drop f g zero p h a b e = absurd (omega arith)
 length-drop f g (suc s) p h a b e =
     elim (cases_eq s p) [
       | inl same ↦
-          let fs : f s ≡ true = ap f same ∙ a in
-          let gs : g s ≡ false = ap g same ∙ b in
-          omega (arith, length_in f s fs, length_out g s gs, length_same f g s (λ q l. e q (omega arith) (omega arith)))
+          let rest = length_same f g s (λ q l. e q (omega arith) (omega arith)) in
+          grind (arith, length_step f s, length_step g s)
       | inr other ↦
           let ih = length-drop f g s p (omega arith) a b (λ q l. e q (omega arith)) in
-          elim (cases_Bool (f s)) [
-            | inl fs ↦ omega (arith, length_in f s fs, length_in g s (sym (e s (omega arith) other) ∙ fs))
-            | inr fs ↦ omega (arith, length_out f s fs, length_out g s (sym (e s (omega arith) other) ∙ fs))
-          ]
+          grind (arith, length_step f s, length_step g s, e s (omega arith) other)
     ]
 
 -- the points of m below k, as a program counts them
@@ -154,13 +137,6 @@ nth_low f s k =
       | inr g ↦ omega (arith, get_or_past (list_of s f) k 0 g)
     ]
 
--- the place of a point is below the length
-pub place_low : (f : ℕ → Bool) (s p : ℕ) → p < s → f p ≡ true → length (list_of p f) < length (list_of s f)
-place_low f s p h e =
-    let sum : suc p + (s - suc p) ≡ s = omega arith in
-    let up = subst (λ (x : ℕ). length (list_of (suc p) f) ≤ length (list_of x f)) sum (length_mono f (suc p) (s - suc p)) in
-    omega (arith, length_in f p e, up)
-
 -- the list is in order
 pub list_ordered : (f : ℕ → Bool) (s j k : ℕ) → j < k → k < length (list_of s f) → get_or (list_of s f) j 0 < get_or (list_of s f) k 0
 list_ordered f zero j k h l = absurd (omega arith)
@@ -173,10 +149,10 @@ list_ordered f (suc s) j k h l =
           omega (arith, a, b, list_ordered f s j k h low)
       | inr past ↦ elim (cases_Bool (f s)) [
         | inl t ↦
-            let same : length (list_of s f) ≡ k = omega (arith, length_in f s t) in
+            let same : length (list_of s f) ≡ k = grind (arith, length_step f s) in
             let a = front j (omega arith) in
             let b : get_or (list_of (suc s) f) k 0 ≡ s = ap (λ b. get_or (list_of s f ++ cond b (s ∷ []) []) k 0) t ∙ get_or_push (list_of s f) s 0 k same in
             omega (arith, a, b, (member f s j (omega arith)).0)
-        | inr t ↦ absurd (omega (arith, length_out f s t))
+        | inr t ↦ absurd (grind (arith, length_step f s))
       ]
     ]

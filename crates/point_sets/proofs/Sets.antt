@@ -135,24 +135,19 @@ cases_differ (suc k) a b =
     elim (cases_differ k a b) [
       | inr d ↦ inr (d.0, omega (arith, d.1), d.2)
       | inl same ↦
-          elim (cases_Bool (has a k)) [
-            | inl x ↦ elim (cases_Bool (has b k)) [
-              | inl y ↦ inl (below k a b same (x ∙ sym y))
-              | inr y ↦ inr (k, omega arith, inl (x, y))
-            ]
-            | inr x ↦ elim (cases_Bool (has b k)) [
-              | inl y ↦ inr (k, omega arith, inr (x, y))
-              | inr y ↦ inl (below k a b same (x ∙ sym y))
-            ]
+          elim (top (has a k) (has b k)) [
+            | inl e ↦
+                inl (λ p h.
+                elim (cases_lt p k) [
+                  | inl l ↦ same p l
+                  | inr g ↦ let last : k ≡ p = omega arith in subst (λ (q : ℕ). has a q ≡ has b q) last e
+                ])
+            | inr d ↦ inr (k, omega arith, d)
           ]
     ]
   where
-    below : (k a b : ℕ) → ((p : ℕ) → p < k → has a p ≡ has b p) → has a k ≡ has b k → (p : ℕ) → p < suc k → has a p ≡ has b p
-    below k a b same top p h =
-        elim (cases_lt p k) [
-          | inl l ↦ same p l
-          | inr g ↦ let e : k ≡ p = omega arith in subst (λ (q : ℕ). has a q ≡ has b q) e top
-        ]
+    top : (x y : Bool) → (x ≡ y) ⊎ (((x ≡ true) × (y ≡ false)) ⊎ ((x ≡ false) × (y ≡ true)))
+    top x y = grind arith
 
 -- one more number of the test: its point goes in where it passes
 set_step : (p : ℕ) (f : ℕ → Bool) → set_of (p + 1) f ≡ set_of p f + cond (f p) (2 ^ p) 0

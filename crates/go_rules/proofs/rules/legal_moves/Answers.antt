@@ -7,8 +7,8 @@ use Rattle.go_rules.proofs.rules.legal_moves.Goals as goal
 pub returns-then-living_stones-own-clause-legal : goal.returns-then-living_stones-own-clause-legal
 unfolding move_set all_live
 returns-then-living_stones-own-clause-legal c =
-    moves_found _ _ _ 0 c.args.board.now.low c.args.board.now.high (grind (arith, common_steps))
+    moves_found _ _ _ 0 (grind (arith, common_steps))
 
 pub returns-clause-legal : goal.returns-clause-legal
 unfolding move_set all_live
-returns-clause-legal c = moves_found _ _ _ c.points_where.result c.args.board.now.low c.args.board.now.high (grind (arith, common_steps))
+returns-clause-legal c = moves_found _ _ _ c.points_where.result (grind (arith, common_steps))
