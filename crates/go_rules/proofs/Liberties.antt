@@ -15,10 +15,7 @@ near_sym : (n p q : ℕ) → Neighbours n p q → Neighbours n q p
 near_sym n p q b = record {
   on_board = b.there;
   there = b.on_board;
-  near = elim b.near [
-    | inl x ↦ elim x.1 [ inl y ↦ inl (sym x.0, inr y) | inr y ↦ inl (sym x.0, inl y) ]
-    | inr x ↦ elim x.1 [ inl y ↦ inr (sym x.0, inr y) | inr y ↦ inr (sym x.0, inl y) ]
-  ];
+  near = grind (arith, b.near);
 }
 
 in_front : (n s p q r : ℕ) → has s p ≡ true → Neighbours n p q → Joined n s q r → Joined n s p r
@@ -120,14 +117,7 @@ module _ (n own foe : ℕ) (on_own : OnBoard n own) (on_foe : OnBoard n foe) whe
       let is = living_is n own (free_of n own foe) on_own (free_on n own foe) in (
         λ e q h. (is q).0 (ap (λ (m : ℕ). has m q) (eqb-true live own e) ∙ h),
         λ each.
-            eq-eqb live own (same_set (n * n) live own (living_on n own _ on_own) on_own (λ p h.
-            elim (cases_Bool (has own p)) [
-              | inl x ↦ (is p).1 (each p x) ∙ sym x
-              | inr x ↦ elim (cases_Bool (has live p)) [
-                | inl y ↦ absurd (true≢false (sym (own_stone n own (free_of n own foe) p on_own ((is p).0 y)) ∙ x))
-                | inr y ↦ y ∙ sym x
-              ]
-            ])),
+            eq-eqb live own (same_set (n * n) live own (living_on n own _ on_own) on_own (λ p h. grind (arith, is p, each p, own_stone n own (free_of n own foe) p on_own))),
       )
 
   -- each group of the side on turn has a liberty, or one has none
