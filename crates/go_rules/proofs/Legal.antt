@@ -29,13 +29,7 @@ free_is n s t all small whole hs ht =
 
 -- no point is its own neighbour
 apart : (n q p : ℕ) → Neighbours n q p → q ≡ p → ⊥
-apart n q p b e =
-    let rows = ap (λ (x : ℕ). x / n) e in
-    let cols = ap (λ (x : ℕ). x % n) e in
-    elim b.near [
-      | inl x ↦ elim x.1 [ inl y ↦ omega arith | inr y ↦ omega arith ]
-      | inr x ↦ elim x.1 [ inl y ↦ omega arith | inr y ↦ omega arith ]
-    ]
+apart n q p b e = grind (arith, b.near, ap (λ (x : ℕ). x / n) e, ap (λ (x : ℕ). x % n) e)
 
 -- a free point with a free neighbour: a stone there has a liberty
 pub open_leaves : (n own foe p : ℕ) → has (around n (free_of n own foe)) p ≡ true → leaves_one n own foe p ≡ true

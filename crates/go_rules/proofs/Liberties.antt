@@ -15,10 +15,7 @@ near_sym : (n p q : ℕ) → Neighbours n p q → Neighbours n q p
 near_sym n p q b = record {
   on_board = b.there;
   there = b.on_board;
-  near = elim b.near [
-    | inl x ↦ elim x.1 [ inl y ↦ inl (sym x.0, inr y) | inr y ↦ inl (sym x.0, inl y) ]
-    | inr x ↦ elim x.1 [ inl y ↦ inr (sym x.0, inr y) | inr y ↦ inr (sym x.0, inl y) ]
-  ];
+  near = grind (arith, b.near);
 }
 
 in_front : (n s p q r : ℕ) → has s p ≡ true → Neighbours n p q → Joined n s q r → Joined n s p r
@@ -120,14 +117,7 @@ module _ (n own foe : ℕ) (on_own : OnBoard n own) (on_foe : OnBoard n foe) whe
       let is = living_is n own (free_of n own foe) on_own (free_on n own foe) in (
         λ e q h. (is q).0 (ap (λ (m : ℕ). has m q) (eqb-true live own e) ∙ h),
         λ each.
-            eq-eqb live own (same_set (n * n) live own (living_on n own _ on_own) on_own (λ p h.
-            elim (cases_Bool (has own p)) [
-              | inl x ↦ (is p).1 (each p x) ∙ sym x
-              | inr x ↦ elim (cases_Bool (has live p)) [
-                | inl y ↦ absurd (true≢false (sym (own_stone n own (free_of n own foe) p on_own ((is p).0 y)) ∙ x))
-                | inr y ↦ y ∙ sym x
-              ]
-            ])),
+            eq-eqb live own (same_set (n * n) live own (living_on n own _ on_own) on_own (λ p h. grind (arith, is p, each p, own_stone n own (free_of n own foe) p on_own))),
       )
 
   -- each group of the side on turn has a liberty, or one has none
@@ -155,28 +145,25 @@ module _ (n own foe : ℕ) (on_own : OnBoard n own) (on_foe : OnBoard n foe) whe
         λ m. and_from free _ m.empty (fill.1 m.fair),
       )
 
-  pub moves_are : Moves n own foe (move_set n own foe)
+  moves_are : Moves n own foe (move_set n own foe)
   unfolding move_set
   moves_are p =
       elim (cases_Bool (all_live n own foe)) [
-        | inl t ↦
-            let is = ap (λ b. cond b (set_of (n * n) (legal n own foe)) 0) t in (
-              λ e.
-                  let e' = ap (λ (m : ℕ). has m p) (sym is) ∙ e in
-                  let h = has_inside (n * n) (set_of (n * n) (legal n own foe)) p (set_lt (n * n) (legal n own foe)) e' in
-                  (all_live_lem.0 t, (legal_is p h).0 (sym (has_set (n * n) (legal n own foe) p h) ∙ e')),
-              λ m.
-                  let h = has_inside (n * n) (free_of n own foe) p (free_on n own foe) m.1.empty in
-                  ap (λ (k : ℕ). has k p) is ∙ has_set (n * n) (legal n own foe) p h ∙ (legal_is p h).1 m.1,
-            )
-        | inr t ↦
-            let is = ap (λ b. cond b (set_of (n * n) (legal n own foe)) 0) t in (
-              λ e. absurd (true≢false (sym e ∙ ap (λ (m : ℕ). has m p) is ∙ has_zero p)),
-              λ m. absurd (true≢false (sym (all_live_lem.1 m.0) ∙ t)),
-            )
+        | inl t ↦ rw t (
+          λ e.
+              let h = has_inside (n * n) (set_of (n * n) (legal n own foe)) p (set_lt (n * n) (legal n own foe)) e in
+              (all_live_lem.0 t, (legal_is p h).0 (sym (has_set (n * n) (legal n own foe) p h) ∙ e)),
+          λ m.
+              let h = has_inside (n * n) (free_of n own foe) p (free_on n own foe) m.1.empty in
+              has_set (n * n) (legal n own foe) p h ∙ (legal_is p h).1 m.1,
+        )
+        | inr t ↦ rw t (
+          λ e. absurd (true≢false (sym e ∙ has_zero p)),
+          λ m. absurd (true≢false (sym (all_live_lem.1 m.0) ∙ t)),
+        )
       ]
 
--- the same of a set that a program found
+-- the moves that a program found are the legal ones
 pub moves_found : (n own foe r : ℕ) → r ≡ move_set n own foe → OnBoard n own → OnBoard n foe → Moves n own foe r
 moves_found n own foe r e on_own on_foe = subst (Moves n own foe) (sym e) (moves_are n own foe on_own on_foe)
 
@@ -196,26 +183,18 @@ module _ (n s p : ℕ) (on : OnBoard n s) where
   group_is q =
       elim (cases_Bool (has s p)) [
         | inl t ↦
-            let is = ap (λ b. cond b (reach n s (2 ^ p)) 0) t in
-            let chained = reach_chained n s (2 ^ p) on q in (
-              λ e.
-                  let j = chained.0 (ap (λ (m : ℕ). has m q) (sym is) ∙ e) in
-                  subst (λ (x : ℕ). Joined n s x q) (eqb-true j.0 p (sym (has_pow p j.0) ∙ j.1)) j.2,
-              λ j. ap (λ (m : ℕ). has m q) is ∙ chained.1 (p, has_pow p p ∙ eq-eqb p p refl, j),
+            let chained = reach_chained n s (2 ^ p) on q in rw t (
+              λ e. let j = chained.0 e in subst (λ (x : ℕ). Joined n s x q) (eqb-true j.0 p (sym (has_pow p j.0) ∙ j.1)) j.2,
+              λ j. chained.1 (p, has_pow p p ∙ eq-eqb p p refl, j),
             )
-        | inr t ↦
-            let is = ap (λ b. cond b (reach n s (2 ^ p)) 0) t in (
-              λ e. absurd (true≢false (sym e ∙ ap (λ (m : ℕ). has m q) is ∙ has_zero q)),
-              λ j. absurd (true≢false (sym (starts n s p q j) ∙ t)),
-            )
+        | inr t ↦ rw t (group_empty n s p q t)
       ]
 
   group_on : OnBoard n (group_of n s p)
   group_on =
       elim (cases_Bool (has s p)) [
-        | inl t ↦
-            subst (OnBoard n) (sym (ap (λ b. cond b (reach n s (2 ^ p)) 0) t)) (lt_of_le_of_lt (reach_le n s (2 ^ p)) on)
-        | inr t ↦ subst (OnBoard n) (sym (ap (λ b. cond b (reach n s (2 ^ p)) 0) t)) (pow_pos (n * n))
+        | inl t ↦ rw t (lt_of_le_of_lt (reach_le n s (2 ^ p)) on)
+        | inr t ↦ rw t (pow_pos (n * n))
       ]
 
   pub liberties_are : (f : ℕ) → Liberties n s f p (liberties_of n s f p)

@@ -14,7 +14,7 @@ use Rattle.go_rules.specs.Groups.{OnBoard}
 use Rattle.go_rules.specs.Play.{by_side, moves_at, after, standing, win_for, place_view, atari_go}
 use Rattle.go_rules.specs.Text.{lines_of, start_of, text_fault, first_fault}
 use Rattle.go_rules.specs.Rulebook.{white_of, own_of, foe_of, Alive, Lost, ByRules, ToldByRules}
-use Rattle.go_rules.proofs.Liberties.{moves_are, alive_or_not, free_on}
+use Rattle.go_rules.proofs.Liberties.{moves_found, alive_or_not, free_on}
 use Rattle.go_rules.proofs.Laws.{Placed, placed_of, reached_good, go_lawful}
 use Rattle.go_rules.proofs.Texts.{in_form, start_good}
 
@@ -53,8 +53,8 @@ module _ (n : ℕ) (high : n ≤ 7) (start : Place) (good : Placed n start) (l :
   unfolding own foe
   are =
       let s = (standing n start l).side in
-      subst (Moves n own foe) (sym (ap (λ (y : Place). y.moves) here.whole))
-      (moves_are n own foe (side_on s n _ _ here.black here.white) (side_on s n _ _ here.white here.black))
+      moves_found n own foe (standing n start l).moves (ap (λ (y : Place). y.moves) here.whole) (side_on s n _ _ here.black here.white)
+      (side_on s n _ _ here.white here.black)
 
   legal_at : (k : ℕ) → k < length (moves_at n (standing n start l)) → Alive n own foe × LegalMove n own foe (get_or (moves_at n (standing n start l)) k 0)
   legal_at k h = (are (get_or (moves_at n (standing n start l)) k 0)).0 (member (has (standing n start l).moves) (n * n) k h).1
