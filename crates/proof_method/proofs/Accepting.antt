@@ -1,8 +1,7 @@
 -- Check accepts exactly the proofs that the budget covers, and an accepted claim is true.
-use Rattle.std.proofs.Common.{◌≡◌, ℕ, zero, suc, ◌-◌, ◌^◌, ◌<◌, ◌≤◌, Bool, true, false, cond, ◌||◌, T, eqb, ltb, List, [], ◌∷◌, ◌++◌, length, sym, refl, ap, ◌∙◌, subst, append-nil, arith, eqb→eq}
-use mathlib.Core.Bool.{false≢true}
+use Rattle.std.proofs.Common.{◌≡◌, ℕ, suc, ◌-◌, ◌^◌, ◌<◌, ◌≤◌, Bool, true, false, cond, ◌||◌, eqb, ltb, List, [], ◌∷◌, ◌++◌, length, refl, ap, ◌∙◌, subst, append-nil, arith}
 use Rattle.codec.specs.Numbers.{Read, number, refused, read, encode, Bytes}
-use Rattle.codec.proofs.Numbers.{lt_of, read_back, read_only}
+use Rattle.codec.proofs.Numbers.{read_back, read_only}
 use Rattle.game.specs.Meaning.{Line, Meaning, Reachable}
 use Rattle.proof_method.specs.Strategy.{written, bit}
 use Rattle.proof_method.specs.Check.{Walked, through, stopped, fault, walk, Checked, accepted, faulty, finish, claim, by_verdict, by_floor, check}

@@ -1,15 +1,12 @@
 -- Bisimilar lines have the same answer of check.
-use Rattle.std.proofs.Common.{◌≡◌, ℕ, zero, suc, ◌+◌, ◌<◌, ◌≤◌, Bool, true, false, cond, ◌||◌, eqb, ltb, List, [], ◌∷◌, length, Some, None, Option, refl, ap, ◌∙◌, ap₂, arith}
+use Rattle.std.proofs.Common.{◌≡◌, ℕ, zero, suc, ◌+◌, ◌<◌, ◌≤◌, Bool, List, [], ◌∷◌, length, Some, None, Option, refl, ap₂, arith}
 use mathlib.Core.Bool.{beq}
 use Rattle.codec.specs.Numbers.{Read, number, refused, read}
-use Rattle.codec.proofs.Numbers.{lt_of}
-use Rattle.game.specs.declared.kinds.Side.{Side}
 use Rattle.game.specs.declared.kinds.Score.{Score}
-use Rattle.game.specs.Kinds.{is_black}
 use Rattle.game.specs.Meaning.{Line, Meaning, Reachable, Bisimilar}
 use Rattle.game.specs.Value.{black_moves}
 use Rattle.game.proofs.Value.{bisimilar_next}
-use Rattle.proof_method.specs.Check.{Walked, Step, then, choose, fault, played, own, each, at_line, walk, Checked, faulty, finish, claim, by_verdict, by_floor, check}
+use Rattle.proof_method.specs.Check.{Step, choose, played, own, each, at_line, walk, check}
 use Rattle.proof_method.specs.Theorems.{BisimilarChecked}
 
 -- a line's part of the walk asks only for its legal moves

@@ -1,13 +1,13 @@
 -- The walk of check goes through exactly on the bytes of a strategy that wins.
-use Rattle.std.proofs.Common.{◌≡◌, ℕ, zero, suc, ◌+◌, ◌<◌, ◌≤◌, Bool, true, false, ltb, leb, List, [], ◌∷◌, ◌++◌, Some, None, Option, sym, refl, ap, ◌∙◌, subst, append_assoc, arith}
+use Rattle.std.proofs.Common.{◌≡◌, ℕ, zero, suc, ◌+◌, ◌<◌, ◌≤◌, Bool, true, false, leb, List, [], ◌∷◌, ◌++◌, Some, None, Option, sym, refl, ap, ◌∙◌, subst, append_assoc, arith}
 use mathlib.Core.Bool.{beq}
 use Rattle.codec.specs.Numbers.{Read, number, refused, read, encode, Bytes}
-use Rattle.codec.proofs.Numbers.{lt_of, ltb-true, read_back, read_only}
+use Rattle.codec.proofs.Numbers.{read_back, read_only}
 use Rattle.game.specs.declared.kinds.Score.{Score}
 use Rattle.game.specs.Kinds.{points}
 use Rattle.game.specs.Meaning.{Line, Meaning, Reachable}
 use Rattle.game.specs.Value.{black_moves}
-use Rattle.proof_method.proofs.Bools.{beq_same, beq_other, beq_true, beq_false}
+use Rattle.proof_method.proofs.Bools.{beq_same, beq_other}
 use Rattle.proof_method.specs.Strategy.{Strategy, over, move, replies, join, written, total, plays, Wins}
 use Rattle.proof_method.specs.Check.{Walked, through, stopped, Fault, Step, then, choose, fault, played, own, each, at_line, walk}
 
