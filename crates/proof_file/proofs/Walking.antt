@@ -1,19 +1,29 @@
 -- The steps of the code's walk, each by the definition.
-use Rattle.std.proofs.Common.{◌≡◌, ℕ, zero, suc, sub-one, IsErrAnd, ok_or, ◌+◌, ◌-◌, ◌<◌, ◌≤◌, Bool, List, ◌∷◌, length, drop, Ok, Err, Result, ap, ◌∙◌, arith}
+use Rattle.std.proofs.Common.{◌≡◌, ℕ, zero, suc, sub-one, IsErrAnd, ok_or, ◌+◌, ◌-◌, ◌<◌, ◌≤◌, Bool, List, ◌∷◌, length, drop, None, Ok, Err, Result, ap, arith}
 use Rattle.std.proofs.lemmas.Grind.{common_steps}
+use Rattle.std.proofs.lemmas.Result.{err_from_is_err_and}
 use Rattle.codec.specs.declared.Number.{Number}
 use Rattle.codec.specs.Numbers.{number, read}
 use Rattle.codec.specs.Files.{number_at}
 use Rattle.codec.proofs.Numbers.{ltb-true}
 use Rattle.codec.proofs.Spelling.{some_read}
 use Rattle.game.specs.Meaning.{Line, Meaning}
+use Rattle.game.specs.Laws.{Bounded, Room}
+use Rattle.game.proofs.Bounds.{room_under}
+use Rattle.game.proofs.Value.{none_is}
 use Rattle.game.specs.Value.{black_moves}
+use Rattle.proof_file.specs.declared.fault.Reason.TheVariants.{NotANumber}
 use Rattle.proof_file.specs.declared.fault.Fault.{Fault as CodeFault}
 use Rattle.proof_method.specs.declared.state.State.{State}
 use Rattle.search_method.specs.declared.claim.Claim.{Claim}
 use Rattle.proof_method.specs.Check.{then, each, at_line, walk}
-use Rattle.proof_method.proofs.Turns.{residual_is}
 use Rattle.proof_file.specs.Faults.{walked_by, Within, below, Descends, GoesThrough}
+
+-- a line that goes on has room for a move
+pub has_room : (m : Meaning) (l : Line) → Bounded m → Room m l → (m.view l).score ≡ None → length l < 96
+has_room m l bounded here z =
+    let under = room_under m l bounded.0 bounded.1 here (none_is (m.view l).score z) in
+    omega (arith, bounded.1.low)
 
 module _ (m : Meaning) (bytes : List ℕ) (claim : Claim) (l : Line) (d : ℕ) where
   -- every move: those before k went through
@@ -50,11 +60,14 @@ module _ (m : Meaning) (bytes : List ℕ) (claim : Claim) (l : Line) (d : ℕ) w
   pub through_fails : {start : State} {k : ℕ} {s : State} (from : ℕ) (e : CodeFault) (r : Result State CodeFault) → k < (m.view l).moves → Through start k s →
       Descends m bytes claim l d k from s (Err e) → IsErrAnd r (λ x. x ≡ e) → GoesThrough m bytes claim l d start r
   through_fails {start} {k} {s} from e r h so_far one is f le =
-      ap (walked_by bytes) (residual_is r e is) ∙ next_move start k from s (Err e) h so_far one f le
+      let p = err_from_is_err_and r is in
+      rw (p.1, p.2) (next_move start k from s (Err e) h so_far one f le)
 
-pub read_is : (bytes : List ℕ) {at : ℕ} (e : CodeFault) {x : Number} → at ≤ length bytes → Ok x ≡ ok_or (number_at bytes at) e →
+-- a number that was read
+pub read_is : (bytes : List ℕ) (at d : ℕ) {x : Number} → at ≤ length bytes →
+    (let none : CodeFault = record { reason = NotANumber; place = at; depth = d } in Ok x ≡ ok_or (number_at bytes at) none) →
     (read (drop at bytes) ≡ number x.value (drop x.end bytes)) × (x.end ≤ length bytes)
-read_is bytes {at} e {x} inside h = some_read bytes at inside x (grind arith)
+read_is bytes at d {x} inside h = some_read bytes at inside x (grind arith)
 
 -- a line with fuel left
 pub walk_line : (whole : ℕ) (m : Meaning) (floor : ℕ) (v : Bool) (f d : ℕ) (l : Line) (rest : List ℕ) (n : ℕ) → 0 < f →

@@ -54,11 +54,11 @@ pub record Says : Type 0 where
   pub plays : ℕ
 
 abbrev pub proof_of : CheckedProof → Says
-proof_of c = record { floor = c.floor; yes = c.yes; size = c.length; plays = c.plays }
+proof_of c = record { floor = c.claim.floor; yes = c.claim.yes; size = c.length; plays = c.plays }
 
 -- the answer of check: the four values of an accepted proof, or those of a fault
 abbrev pub checked_by : Result CheckedProof CodeFault → Checked
-checked_by (Ok c) = accepted c.floor c.yes c.length c.plays
+checked_by (Ok c) = accepted c.claim.floor c.claim.yes c.length c.plays
 checked_by (Err f) = faulty (fault_of f)
 
 -- one of the two numbers of the claim, as it is read at a place: 9 where there is none, 10 where it is not from low to high

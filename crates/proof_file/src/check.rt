@@ -15,8 +15,7 @@ use search_method::memory::WorkMemory;
 // A proof file that check accepted: its claim, its length and the plays of its walk. Only check makes one.
 #[derive(Drop)]
 pub struct CheckedProof {
-    floor: u8,
-    yes: bool,
+    claim: Claim,
     length: usize,
     plays: u32,
 }
@@ -25,13 +24,13 @@ impl CheckedProof {
     pub fn floor(&self) -> u8
         ensures { result ≡ (proof_of self.now).floor }
     {
-        self.floor
+        self.claim.floor
     }
 
     pub fn yes(&self) -> bool
         ensures { result ≡ (proof_of self.now).yes }
     {
-        self.yes
+        self.claim.yes
     }
 
     pub fn length(&self) -> usize
@@ -195,8 +194,7 @@ fn check_bytes<G: Bounded>(game: &mut G, proof: &[u8], budget: u32) -> Result<Ch
         });
     }
     Ok(CheckedProof {
-        floor: claim.floor,
-        yes: claim.yes,
+        claim,
         length: proof.len(),
         plays: budget - end.left,
     })

@@ -7,9 +7,3 @@ beq_same a b e = grind arith
 
 pub beq_other : (a b : Bool) → beq a b ≡ false → a ≡ not b
 beq_other a b e = grind arith
-
-pub beq_true : (a b : Bool) → a ≡ b → beq a b ≡ true
-beq_true a b e = grind arith
-
-pub beq_false : (a b : Bool) → a ≡ not b → beq a b ≡ false
-beq_false a b e = grind arith

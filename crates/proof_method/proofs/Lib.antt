@@ -3,5 +3,4 @@ pub mod Strategy
 pub mod Walk
 pub mod Accepting
 pub mod Bisimilar
-pub mod Turns
 pub mod Write

@@ -59,16 +59,9 @@ IfPut P (failed n) = Ordinary n
 
 -- a verdict against the side on turn holds after each of its moves
 all_keep : (floor : ℕ) (b : Bool) (n : ℕ) (g : ℕ → ℕ) (k : ℕ) → k < n → leb floor (best b n g) ≡ not b → leb floor (g k) ≡ not b
-all_keep floor true n g k h e = by (leb floor (g k)) refl
-  where
-    by : (t : Bool) → leb floor (g k) ≡ t → t ≡ false
-    by true z = sym (one_settles floor true n g k h z) ∙ e
-    by false z = refl
-all_keep floor false n g k h e = by (leb floor (g k)) refl
-  where
-    by : (t : Bool) → leb floor (g k) ≡ t → t ≡ true
-    by true z = refl
-    by false z = sym (one_settles floor false n g k h z) ∙ e
+all_keep floor b n g k h e =
+    let one = one_settles floor b n g k h in
+    grind arith
 
 module _ {S : Type 0} (𝓢 : StoreMeaning S) (m : Meaning) (H : ℕ) (lawful : Lawful m) (law : BoundedBy m H)
     (stray : ℕ) (floor : ℕ) (low : 1 ≤ floor) (high : floor ≤ 2) (room : ℕ) where
@@ -111,8 +104,7 @@ module _ {S : Type 0} (𝓢 : StoreMeaning S) (m : Meaning) (H : ℕ) (lawful : 
       own_lays : (k : ℕ) → (m.view l).score ≡ None → black_moves (m.view l) ≡ v → k < (m.view l).moves → Lays (k ∷ l) (go k) →
           Lays l (own stray m floor room v l go k)
       own_lays k s b legal lays out n fit =
-          subst (λ (t : Bool). Holds (LaidAt l out n) (choose t (number room k (played (go k)) out n) (done (failed stray))))
-          (sym (ltb-true k (m.view l).moves legal))
+          rw (ltb-true k (m.view l).moves legal)
           (number_holds (LaidAt l out n) k (played (go k)) out n (inr refl) (plays_on n (omega arith)))
         where
           moved : (c : ℕ) → suc c ≤ n → (x : Put) → LaidAt (k ∷ l) (out ++ encode k) c x → LaidAt l out n x
@@ -323,8 +315,7 @@ writes_proofs 𝓢 m H lawful law l r floor low high budget room s t v bytes cou
 
 pub no_stray : {S : Type 0} (𝓢 : StoreMeaning S) → NoStray 𝓢
 no_stray 𝓢 m H lawful law l r floor low high stray budget room s t n all run =
-    let g = write_files 𝓢 m H lawful law stray floor low high room l budget r s t (unwritten n) all run in
-    (g.0, g.1)
+    write_files 𝓢 m H lawful law stray floor low high room l budget r s t (unwritten n) all run
 
 pub claim_found : {S : Type 0} (𝓢 : StoreMeaning S) → ClaimFound 𝓢
 claim_found 𝓢 m H lawful law l r floor low high budget s t v w k count all z b true_here run =

@@ -17,7 +17,7 @@ use Rattle.search.specs.Solve.{Answers}
 use Rattle.proof_method.specs.declared.state.State.{State}
 use Rattle.proof_method.specs.Strategy.{bit}
 use Rattle.proof_method.specs.Write.{Put, Part, next, played, number, each, walk, start, end, after_solve, Written, write_in}
-use Rattle.proof_method.proofs.Turns.{residual_is}
+use Rattle.std.proofs.lemmas.Result.{err_from_is_err_and}
 use Rattle.search_method.proofs.Runs.{runs_bind}
 use Rattle.proof_writer.specs.declared.refusal.WriteRefusal.{WriteRefusal}
 use Rattle.proof_writer.specs.declared.walk.Writer.{Writer}
@@ -61,7 +61,7 @@ written_in 𝓢 m l floor budget room lines moves s t u a w answers next =
     (solve_then 𝓢 m l floor budget (refusal_due floor lines moves) s t u a (after_solve 7 m l floor budget room) w answers next)
 
 -- bytes that are unchanged past a place are so past a later one
-pub drop_more : (p q : ℕ) (xs ys : List ℕ) → p ≤ q → drop p xs ≡ drop p ys → drop q xs ≡ drop q ys
+drop_more : (p q : ℕ) (xs ys : List ℕ) → p ≤ q → drop p xs ≡ drop p ys → drop q xs ≡ drop q ys
 drop_more p q xs ys h e =
     let z : q ≡ p + (q - p) = omega arith in
     ap (λ (i : ℕ). drop i xs) z ∙ sym (drop-drop (q - p) p xs) ∙ ap (drop (q - p)) e ∙ drop-drop (q - p) p ys ∙ ap (λ (i : ℕ). drop i ys) (sym z)
@@ -138,4 +138,5 @@ module _ {S : Type 0} (𝓢 : StoreMeaning S) (m : Meaning) (claim : Claim) (l :
       k < (m.view l).moves → length mid ≡ length before → (new : List ℕ) (then : S) (e : WriteRefusal) → Plays 𝓢 m claim l k s mid to new then (Err e) →
       (r : Result State WriteRefusal) → IsErrAnd r (λ x. x ≡ e) → PlaysAll 𝓢 m claim l start before from new then r
   begun_fails so_far lt same new then e one r is f le =
-      rw (residual_is r e is) (next_run so_far lt same new then (Err e) one f le (put_by new (Err e)) then (refl, refl))
+      let p = err_from_is_err_and r is in
+      rw (p.1, p.2) (next_run so_far lt same new then (Err e) one f le (put_by new (Err e)) then (refl, refl))

@@ -22,7 +22,7 @@ abbrev pub written_by : List ℕ → Result CodeWritten WriteRefusal → Written
 written_by bytes (Ok w) = proof w.yes (take w.length bytes) w.plays
 written_by bytes (Err e) = unwritten (write_number e)
 
--- the proof lies inside the buffer
+-- the proof lies inside the buffer; std has a `Fits` of numbers, but clauses of session cite this one by its name
 abbrev pub Fits : List ℕ → Result CodeWritten WriteRefusal → Type 0
 Fits bytes (Ok w) = w.length ≤ length bytes
 Fits bytes (Err e) = Unit {0}

@@ -1,8 +1,7 @@
 use Rattle.std.proofs.Common.{◌≤◌, ◌-◌, arith}
 use Rattle.std.proofs.lemmas.Grind.{common_steps}
 use Rattle.game.proofs.Kept.{kept_then}
-use Rattle.proof_file.proofs.Walking.{walk_line, read_is, through_more, through_fails}
-use Rattle.proof_method.proofs.Turns.{has_room}
+use Rattle.proof_file.proofs.Walking.{has_room, walk_line, read_is, through_more, through_fails}
 use Rattle.proof_file.proofs.check.Walker.+walk.Goals as goal
 
 pub walk-returns-then-not-claims-clause-is : goal.walk-returns-then-not-claims-clause-is
@@ -15,7 +14,7 @@ pub walk-returns-clause-is : goal.walk-returns-clause-is
 walk-returns-clause-is g t c f lt =
     let below : c.args.state.left ≤ f - 1 = omega arith in
     let one = c.descend.ensures.is (f - 1) below in
-    let next = read_is c.args.self.now.proof.now _ c.requires.inside c.in_ok-number.ensures in
+    let next = read_is c.args.self.now.proof.now c.args.state.at c.args.depth c.requires.inside c.in_ok-number.ensures in
     grind (arith, walk_line)
 
 pub descend-returns-in_err-map_err-clause-is : goal.descend-returns-in_err-map_err-clause-is
