@@ -45,7 +45,9 @@ impl Rule for Repetition {
         game.context()
     }
 
-    // Whether the line is so below, and no prefix has its level.
+    // Whether the line is so below, and no prefix has its level. It is kept out of line: a limit above asks this twice of
+    // a line, and LLVM makes one call of two, but does not make one loop of two.
+    #[inline(never)]
     fn independent<G: Game>(&self, game: &G) -> bool {
         let level = game.level();
         game.independent() && !any_earlier(game, |w| w.level == level)
