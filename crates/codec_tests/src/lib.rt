@@ -5,31 +5,20 @@
 mod tests {
     use codec::{Number, put_number, read_number};
 
+    fn number(value: u32, end: usize) -> Option<Number> {
+        Some(Number { value, end })
+    }
+
     #[test]
     fn reads_numbers(rt: HostRuntime) {
-        assert_eq!(rt; read_number(&[0], 0), Some(Number { value: 0, end: 1 }));
-        assert_eq!(rt;
-            read_number(&[0x7f, 0x7f], 0),
-            Some(Number { value: 127, end: 1 })
-        );
-        assert_eq!(rt;
-            read_number(&[0x80, 0x01], 0),
-            Some(Number { value: 128, end: 2 })
-        );
-        assert_eq!(rt;
-            read_number(&[0xac, 0x02], 0),
-            Some(Number { value: 300, end: 2 })
-        );
-        assert_eq!(rt;
-            read_number(&[9, 0xac, 0x02, 9], 1),
-            Some(Number { value: 300, end: 3 })
-        );
+        assert_eq!(rt; read_number(&[0], 0), number(0, 1));
+        assert_eq!(rt; read_number(&[0x7f, 0x7f], 0), number(127, 1));
+        assert_eq!(rt; read_number(&[0x80, 0x01], 0), number(128, 2));
+        assert_eq!(rt; read_number(&[0xac, 0x02], 0), number(300, 2));
+        assert_eq!(rt; read_number(&[9, 0xac, 0x02, 9], 1), number(300, 3));
         assert_eq!(rt;
             read_number(&[0xff, 0xff, 0xff, 0xff, 0x0f], 0),
-            Some(Number {
-                value: 0xffff_ffff,
-                end: 5,
-            })
+            number(0xffff_ffff, 5)
         );
     }
 
