@@ -176,9 +176,7 @@ fn is_blank(byte: &u8) -> bool {
 
 // A decimal number below 2^32; the bytes need not be text.
 fn decimal(digits: &[u8]) -> Option<u32> {
-    std::str::from_utf8(digits)
-        .ok()
-        .and_then(|text| number(text))
+    std::str::from_utf8(digits).ok().and_then(number)
 }
 
 fn asked(digits: &[u8]) -> Result<u32, Why> {
@@ -200,8 +198,12 @@ fn posted_of(heap: Global, text: &[u8]) -> Result<Posted<'_>, Why> {
 
 // The card of a line. The position itself is read later, by its game.
 pub(crate) fn card_of(heap: Global, text: &[u8]) -> Result<Card<'_>, NotCard> {
+    let mut fields = text
+        .split(is_blank)
+        .filter(|field| !field.is_empty())
+        .enumerate();
     let mut card = Card {
-        position: &[],
+        position: fields.next().map_or(&[], |(_, position)| position),
         rules: Rules::Plain,
         floor: None,
         slots: None,
@@ -210,12 +212,7 @@ pub(crate) fn card_of(heap: Global, text: &[u8]) -> Result<Card<'_>, NotCard> {
         line: None,
         posted: None,
     };
-    let fields = text.split(is_blank).filter(|field| !field.is_empty());
-    for (before, word) in fields.enumerate() {
-        if before == 0 {
-            card.position = word;
-            continue;
-        }
+    for (before, word) in fields {
         let field = before.saturating_add(1);
         if let Err(why) = card.take_word(heap, field, word) {
             return Err(NotCard { field, why });

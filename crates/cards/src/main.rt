@@ -19,7 +19,7 @@ use settle::{Settled, Solved, settle_card};
 use std::{fs, io};
 
 // How many cards were printed, and how many were not.
-#[derive(Clone, Copy)]
+#[derive(Clone, Copy, Default)]
 struct Tally {
     printed: u32,
     refused: u32,
@@ -68,13 +68,10 @@ fn posted_bytes(
         Posted::Bytes(bytes) => Some(bytes),
         Posted::File(name) => file_bytes(rt, name),
     };
-    match bytes {
-        Some(bytes) => Ok(Some(bytes)),
-        None => Err(NotCard {
-            field,
-            why: Why::NoFile,
-        }),
-    }
+    bytes.map(Some).ok_or(NotCard {
+        field,
+        why: Why::NoFile,
+    })
 }
 
 // What a card comes to.
@@ -102,10 +99,7 @@ fn do_card(rt: &HostRuntime, o: &Options, number: u32, line: &[u8]) -> io::Resul
 }
 
 fn do_batch(rt: &HostRuntime, o: &Options, text: &[u8]) -> io::Result<Tally> {
-    let mut tally = Tally {
-        printed: 0,
-        refused: 0,
-    };
+    let mut tally = Tally::default();
     for line in text.split(|byte| *byte == b'\n') {
         let line = line.strip_suffix(b"\r").unwrap_or(line);
         if is_card(line) {

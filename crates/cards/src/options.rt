@@ -1,7 +1,7 @@
 // The words on the command line.
 use std::{env, io};
 
-#[derive(Drop)]
+#[derive(Default, Drop)]
 pub(crate) struct Options {
     pub(crate) quiet: bool,
     pub(crate) help: bool,
@@ -11,12 +11,7 @@ pub(crate) struct Options {
 
 // `--quiet`, `--help`, `--out DIR`, and the name of a file.
 pub(crate) fn read_options(rt: &HostRuntime) -> io::Result<Options> {
-    let mut found = Options {
-        quiet: false,
-        help: false,
-        out: None,
-        file: None,
-    };
+    let mut found = Options::default();
     let mut words = env::args(rt)?;
     let _program = words.next();
     while let Some(word) = words.next() {

@@ -102,10 +102,8 @@ fn told_by(exchanges: Vec<Exchange>) -> Result<Told, CardRefusal> {
             Some(Reply::Cleared) | None => {}
         }
     }
-    match accepted {
-        Some(accepted) => Ok(Told { solved, accepted }),
-        None => Err(CardRefusal::Solve(SolveRefusal::Memory)),
-    }
+    let accepted = accepted.ok_or(CardRefusal::Solve(SolveRefusal::Memory))?;
+    Ok(Told { solved, accepted })
 }
 
 // Makes both lists of calls in two sessions over the card's tables, with this buffer: the plays of the line; then, in the
