@@ -42,7 +42,10 @@ fn targets_good(size: usize, n: &Node) -> bool
     ensures { result ≡ targets_good size n.now }
 {
     let counted = usize::from(n.count);
-    n.targets.iter().take(counted).all(|t| usize::from(*t) < size)
+    n.targets
+        .iter()
+        .take(counted)
+        .all(|t| usize::from(*t) < size)
 }
 
 fn node_good(size: usize, n: &Node) -> bool
