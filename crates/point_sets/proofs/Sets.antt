@@ -149,18 +149,11 @@ cases_differ (suc k) a b =
     top : (x y : Bool) → (x ≡ y) ⊎ (((x ≡ true) × (y ≡ false)) ⊎ ((x ≡ false) × (y ≡ true)))
     top x y = grind arith
 
--- one more number of the test: its point goes in where it passes
-set_step : (p : ℕ) (f : ℕ → Bool) → set_of (p + 1) f ≡ set_of p f + cond (f p) (2 ^ p) 0
-set_step p f = ap (λ k. set_of k f) (add-one p)
-
-pub set_more : (p : ℕ) (f : ℕ → Bool) (m : ℕ) → m ≡ set_of p f → p < 64 → f p ≡ true → bit_or m (1 * 2 ^ p % 2 ^ 64) ≡ set_of (p + 1) f
-set_more p f m e h t =
-    let low : m < 2 ^ p = omega (arith, set_lt p f) in
-    let sum = ap (bit_or m) (one_shl p 64 h ∙ omega arith) ∙ or_comm m (1 * 2 ^ p) ∙ or_shifted 1 p m low in
-    omega (arith, sum, set_step p f, cond-true (f p) (2 ^ p) 0 t)
-
-pub set_same : (p : ℕ) (f : ℕ → Bool) (m : ℕ) → m ≡ set_of p f → f p ≡ false → m ≡ set_of (p + 1) f
-set_same p f m e t = omega (arith, set_step p f, cond-false (f p) (2 ^ p) 0 t)
+-- one more point, as a program puts it in
+pub set_more : (p m : ℕ) → m < 2 ^ p → p < 64 → bit_or m (1 * 2 ^ (p % 64) % 2 ^ 64) ≡ m + 2 ^ p
+set_more p m low h =
+    let small : p % 64 ≡ p = omega arith in
+    ap (bit_or m) (ap (λ (k : ℕ). 1 * 2 ^ k % 2 ^ 64) small ∙ one_shl p 64 h ∙ omega arith) ∙ or_comm m (1 * 2 ^ p) ∙ or_shifted 1 p m low ∙ omega arith
 
 -- no word has a place from 64 on
 pub past_word : (m p : ℕ) → m < 2 ^ 64 → 64 ≤ p → ltb p 64 ≡ has m p

@@ -1,13 +1,16 @@
-use Rattle.std.proofs.Common.{◌≡◌, sym, ◌∙◌, arith}
-use Rattle.point_sets.proofs.Sets.{set_more, set_same}
+use Rattle.std.proofs.Common.{◌≡◌, ℕ, ◌*◌, ◌%◌, ◌^◌, filter, sym, ◌∙◌, arith, rules}
+use borrow.Author.Tests.{tests}
+use lib.Bits.{bit_or}
+use Rattle.std.specs.List.{range_with_len}
+use Rattle.std.proofs.lemmas.Iterator.{YieldsList-from_range}
+use Rattle.std.proofs.lemmas.Iterator.Consumers.{YieldsList-from_filter, fold_from_yields_List}
+use Rattle.point_sets.proofs.Lists.{set_found}
 use Rattle.go_rules.proofs.board.points_where.Goals as goal
-use Rattle.go_rules.proofs.board.points_where.Goals.{then-test, else-test}
 
-pub loop-p-preserved : goal.loop-p-preserved
-loop-p-preserved g c = λ f says.
-    let p = c.loop-p.p in
-    let told : c.test.result ≡ f p = says p c.test.result c.test.ensures in
-    elim c.if-test.branch [
-      | then-test w ↦ w.set-is ∙ set_more p f c.loop-p.set (c.loop-p.invariant f says) (omega arith) (sym told ∙ w.if-test.true)
-      | else-test w ↦ w.set-is ∙ set_same p f c.loop-p.set (c.loop-p.invariant f says) (sym told ∙ w.if-test.false)
-    ]
+pub returns : goal.returns
+returns g c = λ f says.
+    let n = c.args.size in
+    fold_from_yields_List _ (λ m p. bit_or m (1 * 2 ^ (p % 64) % 2 ^ 64)) 0 c.fold.result c.fold.ensures.ran
+    (YieldsList-from_filter _ f (YieldsList-from_range 0 n n (cc) (omega arith)) c.filter.ensures.closure (λ x r q k. search (rules, tests, says)))
+    (λ a x b q k. search (rules, tests))
+    ∙ set_found f n c.requires.small
