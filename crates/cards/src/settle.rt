@@ -17,7 +17,7 @@ use session::request::{Exchange, Reply, Request};
 use session::run::in_two_sessions;
 use std::alloc::{AllocError, Global};
 use std::iter;
-use store::entry::{Entry, Key};
+use store::entry::Entry;
 use store::table::Table;
 
 // What solving answered: the verdict, its move and the plays made.
@@ -45,20 +45,6 @@ struct Told {
     solved: Option<Solved>,
     accepted: CheckedProof,
 }
-
-const NO_PAIR: Pair = Pair { pn: 0, dn: 0 };
-
-const NO_RECORD: LineRecord = LineRecord {
-    key: Key {
-        a: 0,
-        b: 0,
-        context: 0,
-        floor: 0,
-    },
-    black: false,
-    independent: false,
-    limit: NO_PAIR,
-};
 
 // The plays of the card's line, then some calls, and a check at the end.
 fn exchanges(
@@ -128,8 +114,8 @@ fn attempt<G: Bounded + Drop, F: Fn() -> Result<G, CardRefusal>>(
         Some(length) => (&work[0..0], Request::Check { length, budget }),
         None => (&work[0..2], Request::CheckWritten { budget }),
     };
-    let mut lines = vec![in heap; NO_RECORD; 97]?;
-    let mut moves = vec![in heap; NO_PAIR; 6_208]?;
+    let mut lines = vec![in heap; LineRecord::default(); 97]?;
+    let mut moves = vec![in heap; Pair::default(); 6_208]?;
     let mut slots: Vec<Option<Entry>> = vec![in heap; None; card.slots() as usize]?;
     let mut tablet: Vec<Option<Entry>> = vec![in heap; None; card.tablet() as usize]?;
     let mut first = exchanges(heap, card, work, check)?;

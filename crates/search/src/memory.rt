@@ -5,7 +5,7 @@ use store::entry::Key;
 
 // What is kept of a line while it is expanded: its key, whether Black is on turn, whether it is path-independent, and
 // the limits under which it is expanded.
-#[derive(Clone, Copy)]
+#[derive(Clone, Copy, Default)]
 pub struct LineRecord {
     pub key: Key,
     pub black: bool,

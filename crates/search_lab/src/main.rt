@@ -23,24 +23,10 @@ use search_method::kinds::Pair;
 use search_method::memory::WorkMemory;
 use std::io;
 use std::io::{BufRead, BufReader};
-use store::entry::{Entry, Key};
+use store::entry::Entry;
 use store::interface::Store;
 use store::null::Null;
 use store::table::Table;
-
-const NO_PAIR: Pair = Pair { pn: 0, dn: 0 };
-
-const NO_RECORD: LineRecord = LineRecord {
-    key: Key {
-        a: 0,
-        b: 0,
-        context: 0,
-        floor: 0,
-    },
-    black: false,
-    independent: false,
-    limit: NO_PAIR,
-};
 
 // Puts the questions of a case to one game and one store.
 fn ask_all<G: Bounded, S: Store>(
@@ -49,8 +35,8 @@ fn ask_all<G: Bounded, S: Store>(
     store: &mut S,
     questions: &[&str],
 ) -> io::Result<()> {
-    let mut lines = vec![in rt.alloc(); NO_RECORD; 97]?;
-    let mut moves = vec![in rt.alloc(); NO_PAIR; 6_208]?;
+    let mut lines = vec![in rt.alloc(); LineRecord::default(); 97]?;
+    let mut moves = vec![in rt.alloc(); Pair::default(); 6_208]?;
     let mut memory = WorkMemory {
         lines: &mut lines,
         moves: &mut moves,

@@ -5,7 +5,7 @@ ghost use Rattle.search_method.specs.Refusals.{refusal_number};
 use store::entry::Finding;
 
 // A proof number and a disproof number; also the two limits under which a line is expanded.
-#[derive(Clone, Copy, PartialEq, Eq, Debug)]
+#[derive(Clone, Copy, Default, PartialEq, Eq, Debug)]
 pub struct Pair {
     pub pn: u32,
     pub dn: u32,

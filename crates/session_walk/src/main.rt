@@ -16,7 +16,7 @@ use session::request::{Exchange, Reply, Request};
 use session::run::in_two_sessions;
 use std::alloc::{AllocError, Global};
 use std::env;
-use store::entry::{Entry, Key};
+use store::entry::Entry;
 use store::table::Table;
 use thiserror::Error;
 
@@ -188,20 +188,6 @@ impl Tally {
     }
 }
 
-fn blank_line() -> LineRecord {
-    LineRecord {
-        key: Key {
-            a: 0,
-            b: 0,
-            context: 0,
-            floor: 0,
-        },
-        black: false,
-        independent: false,
-        limit: Pair { pn: 0, dn: 0 },
-    }
-}
-
 // Two sessions over two equal games, each with a list of calls of its own and a table of its own. Two more games follow
 // them; `make` makes each of the four.
 fn two_sessions<G: Bounded + Drop, F: Fn() -> Result<G, Failure>>(
@@ -212,8 +198,8 @@ fn two_sessions<G: Bounded + Drop, F: Fn() -> Result<G, Failure>>(
 ) -> Result<(), Failure>
     requires { F.IsAlwaysCallable make }
 {
-    let mut lines = vec![in heap; blank_line(); 97]?;
-    let mut moves = vec![in heap; Pair { pn: 0, dn: 0 }; 6208]?;
+    let mut lines = vec![in heap; LineRecord::default(); 97]?;
+    let mut moves = vec![in heap; Pair::default(); 6208]?;
     let mut slots: Vec<Option<Entry>> = vec![in heap; None; dice.below(9) as usize]?;
     let mut others: Vec<Option<Entry>> = vec![in heap; None; dice.below(400) as usize]?;
     let mut bytes: Vec<u8> = vec![in heap; 0; dice.below(60) as usize]?;
