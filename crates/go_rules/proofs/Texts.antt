@@ -1,5 +1,5 @@
 -- The text of a position.
-use Rattle.std.proofs.Common.{◌≡◌, ℕ, ◌+◌, ◌-◌, ◌*◌, ◌^◌, ◌<◌, ◌≤◌, Bool, true, false, cond, not, ◌&&◌, ◌||◌, ltb, leb, List, [], ◌∷◌, length, get_or, filter, Some, None, Option, sym, refl, ap, ◌∙◌, subst, ap₂, arith, add-zero, zero-add}
+use Rattle.std.proofs.Common.{◌≡◌, ℕ, ◌+◌, ◌-◌, ◌*◌, ◌^◌, ◌<◌, ◌≤◌, Bool, true, false, cond, not, ◌&&◌, ◌||◌, ltb, List, [], ◌∷◌, length, get_or, filter, Some, None, Option, sym, refl, ap, ◌∙◌, subst, ap₂, arith, add-zero, zero-add}
 use Rattle.std.specs.List.{find, position_from, enumerate_from, range_with_len}
 use Rattle.std.specs.Option.{option_or}
 use Rattle.std.specs.Bool.{then_some}
@@ -8,7 +8,7 @@ use Rattle.std.proofs.lemmas.Bool.Decides.{nat_tests}
 use Rattle.go_rules.specs.Text.{fits_at, first_unfit, lines_of, text_fault, stones_of, side_of, dead_set, first_of, dead_point, start_of, first_fault, read_fault, Told}
 use Rattle.go_rules.specs.declared.place.Place.{Place}
 use Rattle.go_rules.specs.Play.{place_of, Position}
-use Rattle.point_sets.specs.Points.{has, set_of}
+use Rattle.point_sets.specs.Points.{has}
 use Rattle.go_rules.specs.Groups.{OnBoard}
 use Rattle.go_rules.specs.Rules.{free_of, living}
 use lib.Bits.{bit_and, bit_or}

@@ -1,10 +1,10 @@
 -- Bits of a set: what each operation on words does to a point.
-use Rattle.std.proofs.Common.{◌≡◌, ℕ, zero, suc, ◌+◌, ◌-◌, ◌*◌, ◌/◌, ◌%◌, ◌^◌, ◌<◌, ◌≤◌, Bool, true, false, cond, not, ◌&&◌, ◌||◌, eqb, ltb, leb, ◌⊎◌, sym, refl, ap, ◌∙◌, subst, inl, inr, add-zero, pow-suc, add-one, arith, lit<}
+use Rattle.std.proofs.Common.{◌≡◌, ℕ, zero, suc, ◌+◌, ◌-◌, ◌*◌, ◌/◌, ◌%◌, ◌^◌, ◌<◌, ◌≤◌, Bool, true, false, cond, not, ◌&&◌, ◌||◌, eqb, ltb, leb, ◌⊎◌, sym, refl, ap, ◌∙◌, subst, inl, inr, add-zero, pow-suc, arith, lit<}
 use lib.Bits.{bit_and, bit_or, bit_xor}
 use Rattle.std.specs.Int.{bit_at, w64}
 use Rattle.std.proofs.lemmas.Nat.{one_shl, or_comm, or_shifted, shr-shr, and_mask, pow_pos}
 use Rattle.std.proofs.lemmas.Nat.Bits.{bit_at-zero, bit_at_and, bit_at_or, bit_at_xor, bit_at_not, bit_at-pow_same, bit_at-pow_other, bit_at_ones, bit_at-lt, bit_at_above, bit_at_cat_low, bit_at_cat_high, shr_and_one, same_from_bits, same_from_bits_below}
-use Rattle.std.proofs.lemmas.Bool.{cases_lt, cases_eq, cases_Bool, true≢false, cond-true, cond-false, cond_both, lt-leb, le-leb, le-ltb, and_left}
+use Rattle.std.proofs.lemmas.Bool.{cases_lt, cases_eq, true≢false, cond_both, lt-leb, le-leb, le-ltb, and_left}
 use Rattle.std.proofs.lemmas.Bool.Decides.{nat_tests}
 use Rattle.point_sets.specs.Points.{has, set_of}
 
