@@ -32,7 +32,7 @@ apart : (n q p : ℕ) → Neighbours n q p → q ≡ p → ⊥
 apart n q p b e = grind (arith, b.near, ap (λ (x : ℕ). x / n) e, ap (λ (x : ℕ). x % n) e)
 
 -- a free point with a free neighbour: a stone there has a liberty
-pub open_leaves : (n own foe p : ℕ) → has (around n (free_of n own foe)) p ≡ true → leaves_one n own foe p ≡ true
+open_leaves : (n own foe p : ℕ) → has (around n (free_of n own foe)) p ≡ true → leaves_one n own foe p ≡ true
 unfolding free_of living
 open_leaves n own foe p e =
     let f = λ (q : ℕ). not (has own q || has foe q) in

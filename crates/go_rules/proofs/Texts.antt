@@ -94,7 +94,7 @@ module _ (n b w lb lw : ℕ) (b_fits : b < 2 ^ 64) (w_fits : w < 2 ^ 64) (lb_fit
       let f = has (bit_or (bit_and b (2 ^ 64 - 1 - lb)) (bit_and w (2 ^ 64 - 1 - lw))) in
       first_found f (range_with_len 0 (n * n)) ∙ ap first_of (sym (list_is f (n * n)) ∙ list_same f (has (dead_set n b w)) (n * n) dead_at)
 
-pub stones_word : (n c : ℕ) (t : List ℕ) → OnBoard n (stones_of n c t)
+stones_word : (n c : ℕ) (t : List ℕ) → OnBoard n (stones_of n c t)
 unfolding stones_of
 stones_word n c t = set_lt (n * n) _
 
