@@ -1,5 +1,5 @@
 -- The neighbours of a set by shifts and masks.
-use Rattle.std.proofs.Common.{◌≡◌, ℕ, ◌+◌, ◌-◌, ◌*◌, ◌/◌, ◌%◌, ◌^◌, ◌<◌, ◌≤◌, Bool, true, false, ◌&&◌, ◌||◌, ltb, leb, sym, refl, ap, ◌∙◌, ap₂, lt_of_le_of_lt, add_comm, arith}
+use Rattle.std.proofs.Common.{◌≡◌, ℕ, ◌+◌, ◌-◌, ◌*◌, ◌/◌, ◌%◌, ◌^◌, ◌<◌, ◌≤◌, Bool, true, ◌&&◌, ◌||◌, ltb, leb, sym, ap, ◌∙◌, ap₂, lt_of_le_of_lt, add_comm, arith}
 use native.Mathlib.Nat.{mod-le}
 use lib.Bits.{bit_and, bit_or, and_le_r, or_lt}
 use Rattle.std.proofs.lemmas.Nat.{mul-le}

@@ -1,9 +1,10 @@
 -- What growth reaches is what chains of neighbours reach.
-use Rattle.std.proofs.Common.{◌≡◌, ℕ, zero, suc, ◌+◌, ◌-◌, ◌*◌, ◌/◌, ◌%◌, ◌^◌, ◌<◌, ◌≤◌, true, ◌&&◌, ◌||◌, ltb, leb, sym, ap, ◌∙◌, subst, inl, inr, lt_of_le_of_lt, arith}
+use Rattle.std.proofs.Common.{◌≡◌, ℕ, zero, suc, ◌+◌, ◌-◌, ◌*◌, ◌/◌, ◌%◌, ◌^◌, ◌<◌, ◌≤◌, true, sym, ap, ◌∙◌, subst, inl, inr, lt_of_le_of_lt, arith}
 use lib.Bits.{bit_and, bit_or, and_le_r}
 use Rattle.std.proofs.Math.Nat.{add-mod_right, add-div_right}
 use Rattle.std.proofs.lemmas.Nat.{div-add-mod', mod_below, div-mul-add, mod-mul-add}
-use Rattle.std.proofs.lemmas.Bool.{cases_eq, or_cases, or_left, or_right, and_parts, and_from, ltb-true, leb-true, lt-ltb, le-leb}
+use Rattle.std.proofs.lemmas.Bool.Decides.{nat_tests}
+use Rattle.std.proofs.lemmas.Bool.{cases_eq, or_cases, or_right, and_parts, and_from, ltb-true, leb-true}
 use Rattle.point_sets.specs.Points.{has, set_of}
 use Rattle.go_rules.specs.Groups.{Neighbours, Joined, here, step, touches, around, grown, spread, reach, OnBoard, Chained}
 use Rattle.point_sets.proofs.Sets.{has_and, has_or, has_set, has_inside, set_lt}
@@ -52,16 +53,15 @@ some_lines zero p h = absurd (omega arith)
 some_lines (suc n) p h = omega arith
 
 -- growth keeps what it began with
-pub spread_keeps : (n s k g q : ℕ) → bit_and g s ≡ g → has g q ≡ true → has (spread k n s g) q ≡ true
+spread_keeps : (n s k g q : ℕ) → bit_and g s ≡ g → has g q ≡ true → has (spread k n s g) q ≡ true
 spread_keeps n s zero g q inside e = e
 spread_keeps n s (suc k) g q inside e =
     elim (cases_eq (grown n s g) g) [
       | inl still ↦ ap (λ (x : ℕ). has x q) (spread_stop (suc k) n s g still) ∙ e
       | inr more ↦
-          let i : has s q ≡ true = (and_parts _ _ (sym (has_and g s q) ∙ ap (λ (x : ℕ). has x q) inside ∙ e)).1 in
           ap (λ (x : ℕ). has x q) (spread_go k n s g more)
           ∙ spread_keeps n s k (grown n s g) q (grown_within n s g)
-          (has_and s (bit_or g (around n g)) q ∙ and_from _ _ i (has_or g (around n g) q ∙ or_left _ _ e))
+          (grind (arith, has_and g s q, has_and s (bit_or g (around n g)) q, has_or g (around n g) q, ap (λ (x : ℕ). has x q) inside))
     ]
 
 pub reach_start : (n s f q : ℕ) → has f q ≡ true → has s q ≡ true → has (reach n s f) q ≡ true
@@ -102,25 +102,7 @@ module _ (n : ℕ) where
 
   touch_to : (m p q : ℕ) → has m q ≡ true → Neighbours n q p → touches n m p ≡ true
   touch_to m p q e b =
-      elim b.near [
-        | inl x ↦ elim x.1 [
-          | inl y ↦
-              let w = from_left n p q x.0 y in
-              or_left _ _ (or_left _ _ (and_from _ _ (lt-ltb 0 (p % n) w.1) (ap (has m) (sym w.0) ∙ e)))
-          | inr y ↦
-              let low : p % n + 1 < n = omega (arith, mod_below q n (some_lines n q b.on_board)) in
-              or_left _ _ (or_right _ _ (and_from _ _ (lt-ltb (p % n + 1) n low) (ap (has m) (sym (from_right n p q x.0 y)) ∙ e)))
-        ]
-        | inr x ↦ elim x.1 [
-          | inl y ↦
-              let w = from_over n p q x.0 y in
-              or_right _ _ (or_left _ _ (and_from _ _ (le-leb n p w.1) (ap (has m) (sym w.0) ∙ e)))
-          | inr y ↦
-              let w = from_under n p q x.0 y in
-              or_right ((ltb 0 (p % n) && has m (p - 1)) || (ltb (p % n + 1) n && has m (p + 1))) _
-              (or_right (leb n p && has m (p - n)) _ (ap (has m) (sym w) ∙ e))
-        ]
-      ]
+      grind (arith, nat_tests, b.near, from_left n p q, from_right n p q, from_over n p q, from_under n p q, mod_below q n (some_lines n q b.on_board))
 
   pub around_from : (m p : ℕ) → OnBoard n m → has (around n m) p ≡ true → (q : ℕ) × (has m q ≡ true) × Neighbours n q p
   unfolding around

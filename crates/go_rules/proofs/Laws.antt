@@ -1,18 +1,15 @@
 -- The laws of Atari Go.
-use Rattle.std.proofs.Common.{◌≡◌, ℕ, zero, suc, ◌+◌, ◌*◌, ◌^◌, ◌<◌, ◌≤◌, Bool, true, false, cond, not, ◌||◌, eqb, List, [], ◌∷◌, ◌++◌, length, is_some, Some, None, sym, refl, ap, ◌∙◌, subst, ap₂, inl, inr, lt_of_lt_of_le, arith, lit≤}
+use Rattle.std.proofs.Common.{◌≡◌, ℕ, ◌+◌, ◌*◌, ◌^◌, ◌<◌, ◌≤◌, Bool, true, false, cond, not, ◌||◌, eqb, List, [], ◌∷◌, ◌++◌, length, is_some, Some, None, sym, refl, ap, ◌∙◌, subst, inl, inr, lt_of_lt_of_le, arith, lit≤}
 use native.Mathlib.Nat.{pow-le-pow_right}
-use lib.Bits.{or_lt}
-use Rattle.std.proofs.lemmas.Nat.{pow_below}
 use Rattle.std.proofs.lemmas.Bool.Decides.{nat_tests}
-use Rattle.std.proofs.lemmas.Bool.{cond_both, eq-eqb, ne_eqb, true≢false, cases_Bool, and_parts}
+use Rattle.std.proofs.lemmas.Bool.{cond_both, eq-eqb, ne_eqb, cases_Bool}
 use Rattle.game.specs.declared.kinds.Side.{Side}
 use Rattle.game.specs.declared.kinds.Side.TheVariants.{Black, White}
-use Rattle.game.specs.declared.kinds.Score.{Score}
 use Rattle.game.specs.Kinds.{number_of, is_black, other}
 use Rattle.game.specs.Meaning.{Reachable, Same, Bisimilar}
 use Rattle.game.specs.Laws.{Fit, Lawful, BoundedBy}
 use Rattle.go_rules.specs.declared.place.Place.{Place}
-use Rattle.point_sets.specs.Points.{has, set_of}
+use Rattle.point_sets.specs.Points.{has}
 use Rattle.go_rules.specs.Groups.{OnBoard}
 use Rattle.go_rules.specs.Rules.{free_of, with_stone, legal, move_set, all_live}
 use Rattle.go_rules.specs.Play.{place_of, win_for, moves_at, placed, after, standing, empty_ones, place_view, atari_go, Position}

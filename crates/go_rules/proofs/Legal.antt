@@ -1,11 +1,11 @@
 -- Free points, liberties and legal moves.
-use Rattle.std.proofs.Common.{◌≡◌, ℕ, ◌-◌, ◌<◌, ◌*◌, ◌/◌, ◌%◌, ◌^◌, ◌≤◌, Bool, true, false, cond, not, ◌&&◌, ◌||◌, eqb, sym, refl, ap, ◌∙◌, ap₂, inl, inr, arith, lit≤, lt_of_lt_of_le}
+use Rattle.std.proofs.Common.{◌≡◌, ℕ, ◌-◌, ◌<◌, ◌*◌, ◌/◌, ◌%◌, ◌^◌, ◌≤◌, true, not, ◌&&◌, ◌||◌, sym, refl, ap, ◌∙◌, inl, inr, arith, lit≤, lt_of_lt_of_le}
 use native.Mathlib.Nat.{pow-le-pow_right}
 use lib.Bits.{bit_and, bit_or, or_lt}
-use Rattle.std.proofs.lemmas.Bool.{cases_lt, true≢false, ne_eqb, eq-eqb, or_left, or_right, and_parts, and_from, and_left, cond-true, cond-false}
+use Rattle.std.proofs.lemmas.Bool.{cases_lt, ne_eqb, eq-eqb, or_left, or_right, and_parts, and_from}
 use Rattle.point_sets.specs.Points.{has, set_of}
 use Rattle.go_rules.specs.Groups.{points, Neighbours, around}
-use Rattle.go_rules.specs.Rules.{free_of, living, with_stone, leaves_one, may_fill, legal, all_live, move_set}
+use Rattle.go_rules.specs.Rules.{free_of, living, with_stone, leaves_one, may_fill, legal}
 use Rattle.point_sets.proofs.Sets.{same_bits, has_and, has_and_not, has_or, has_set, has_none, set_lt, has_pow}
 use Rattle.go_rules.proofs.Around.{small_board}
 use Rattle.go_rules.proofs.Chains.{around_from, around_to, reach_start}
@@ -32,7 +32,7 @@ apart : (n q p : ℕ) → Neighbours n q p → q ≡ p → ⊥
 apart n q p b e = grind (arith, b.near, ap (λ (x : ℕ). x / n) e, ap (λ (x : ℕ). x % n) e)
 
 -- a free point with a free neighbour: a stone there has a liberty
-pub open_leaves : (n own foe p : ℕ) → has (around n (free_of n own foe)) p ≡ true → leaves_one n own foe p ≡ true
+open_leaves : (n own foe p : ℕ) → has (around n (free_of n own foe)) p ≡ true → leaves_one n own foe p ≡ true
 unfolding free_of living
 open_leaves n own foe p e =
     let f = λ (q : ℕ). not (has own q || has foe q) in

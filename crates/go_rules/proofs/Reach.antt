@@ -48,7 +48,7 @@ enough (suc k) n s g e h =
     ]
 
 -- one growth, as the loop makes it
-pub spread_next : (n s g : ℕ) → bit_and g s ≡ g → (grown n s g ≡ g → ⊥) → spread s n s (grown n s g) ≡ spread s n s g
+spread_next : (n s g : ℕ) → bit_and g s ≡ g → (grown n s g ≡ g → ⊥) → spread s n s (grown n s g) ≡ spread s n s g
 spread_next n zero g e more = absurd (more (omega (arith, grows n zero g e, grown_le n zero g)))
 spread_next n (suc k) g e more =
     enough k n (suc k) (grown n (suc k) g) (grown_within n (suc k) g) (omega (arith, grows n (suc k) g e, more))

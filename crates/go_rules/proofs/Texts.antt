@@ -1,5 +1,5 @@
 -- The text of a position.
-use Rattle.std.proofs.Common.{◌≡◌, ℕ, ◌+◌, ◌-◌, ◌*◌, ◌^◌, ◌<◌, ◌≤◌, Bool, true, false, cond, not, ◌&&◌, ◌||◌, ltb, leb, List, [], ◌∷◌, length, get_or, filter, Some, None, Option, sym, refl, ap, ◌∙◌, subst, ap₂, arith, add-zero, zero-add}
+use Rattle.std.proofs.Common.{◌≡◌, ℕ, ◌+◌, ◌-◌, ◌*◌, ◌^◌, ◌<◌, ◌≤◌, Bool, true, false, cond, not, ◌&&◌, ◌||◌, ltb, List, [], ◌∷◌, length, get_or, filter, Some, None, Option, sym, refl, ap, ◌∙◌, subst, ap₂, arith, add-zero, zero-add}
 use Rattle.std.specs.List.{find, position_from, enumerate_from, range_with_len}
 use Rattle.std.specs.Option.{option_or}
 use Rattle.std.specs.Bool.{then_some}
@@ -8,7 +8,7 @@ use Rattle.std.proofs.lemmas.Bool.Decides.{nat_tests}
 use Rattle.go_rules.specs.Text.{fits_at, first_unfit, lines_of, text_fault, stones_of, side_of, dead_set, first_of, dead_point, start_of, first_fault, read_fault, Told}
 use Rattle.go_rules.specs.declared.place.Place.{Place}
 use Rattle.go_rules.specs.Play.{place_of, Position}
-use Rattle.point_sets.specs.Points.{has, set_of}
+use Rattle.point_sets.specs.Points.{has}
 use Rattle.go_rules.specs.Groups.{OnBoard}
 use Rattle.go_rules.specs.Rules.{free_of, living}
 use lib.Bits.{bit_and, bit_or}
@@ -94,7 +94,7 @@ module _ (n b w lb lw : ℕ) (b_fits : b < 2 ^ 64) (w_fits : w < 2 ^ 64) (lb_fit
       let f = has (bit_or (bit_and b (2 ^ 64 - 1 - lb)) (bit_and w (2 ^ 64 - 1 - lw))) in
       first_found f (range_with_len 0 (n * n)) ∙ ap first_of (sym (list_is f (n * n)) ∙ list_same f (has (dead_set n b w)) (n * n) dead_at)
 
-pub stones_word : (n c : ℕ) (t : List ℕ) → OnBoard n (stones_of n c t)
+stones_word : (n c : ℕ) (t : List ℕ) → OnBoard n (stones_of n c t)
 unfolding stones_of
 stones_word n c t = set_lt (n * n) _
 

@@ -1,5 +1,5 @@
 // The text of a position: `G`, the number of lines, `:`, the side on turn, `:`, and a byte for each point.
-ghost use Rattle.std.specs.Prelude.{◌≡◌, ◌<◌, slice_index, Ok, Err};
+ghost use Rattle.std.specs.Prelude.{◌≡◌, ◌<◌, slice_index, IfOk};
 ghost use Rattle.go_rules.specs.Text.{fits_at, lines_of, text_fault, stones_of, side_of, dead_point, read_fault, Told};
 ghost use Rattle.go_rules.specs.Play.{Position};
 ghost use Rattle.game.specs.Refusals.{refused_at};
@@ -73,8 +73,8 @@ fn dead_point(board: &Board, black: u64, white: u64) -> Option<u32>
     ensures { result ≡ dead_point board.now.n black white }
 {
     let free = free_points(board, black, white);
-    let live = living_stones(board, black, free);
-    let dead = (black & !live) | (white & !living_stones(board, white, free));
+    let dead = (black & !living_stones(board, black, free))
+        | (white & !living_stones(board, white, free));
     (0..board.size()).find(|p| has_point(dead, *p))
 }
 
@@ -92,8 +92,8 @@ fn side_of(text: &[u8]) -> Side
 // ends early, then with 15 at the first point of a group without liberty.
 pub fn read_position(text: &[u8]) -> Result<Opening, PositionRefusal>
     ensures answer { refused_at result ≡ read_fault text.now }
-    ensures told { elim result [ Ok o ↦ Told text.now o.board.n o.place | Err e ↦ Unit {0} ] }
-    ensures placed { elim result [ Ok o ↦ Position o.board.n o.place | Err e ↦ Unit {0} ] }
+    ensures told { IfOk result (λ o. Told text.now o.board.n o.place) }
+    ensures placed { IfOk result (λ o. Position o.board.n o.place) }
 {
     if let Some(place) = text_fault(text) {
         return Err(PositionRefusal::OutOfForm { place });

@@ -1,10 +1,10 @@
 -- Bits of a set: what each operation on words does to a point.
-use Rattle.std.proofs.Common.{◌≡◌, ℕ, zero, suc, ◌+◌, ◌-◌, ◌*◌, ◌/◌, ◌%◌, ◌^◌, ◌<◌, ◌≤◌, Bool, true, false, cond, not, ◌&&◌, ◌||◌, eqb, ltb, leb, ◌⊎◌, sym, refl, ap, ◌∙◌, subst, inl, inr, add-zero, pow-suc, add-one, arith, lit<}
-use lib.Bits.{bit_and, bit_or, bit_xor}
+use Rattle.std.proofs.Common.{◌≡◌, ℕ, zero, suc, ◌+◌, ◌-◌, ◌*◌, ◌/◌, ◌%◌, ◌^◌, ◌<◌, ◌≤◌, Bool, true, false, cond, not, ◌&&◌, ◌||◌, eqb, ltb, leb, ◌⊎◌, sym, refl, ap, ◌∙◌, subst, inl, inr, add-zero, pow-suc, arith, lit<}
+use lib.Bits.{bit_and, bit_or}
 use Rattle.std.specs.Int.{bit_at, w64}
 use Rattle.std.proofs.lemmas.Nat.{one_shl, or_comm, or_shifted, shr-shr, and_mask, pow_pos}
-use Rattle.std.proofs.lemmas.Nat.Bits.{bit_at-zero, bit_at_and, bit_at_or, bit_at_xor, bit_at_not, bit_at-pow_same, bit_at-pow_other, bit_at_ones, bit_at-lt, bit_at_above, bit_at_cat_low, bit_at_cat_high, shr_and_one, same_from_bits, same_from_bits_below}
-use Rattle.std.proofs.lemmas.Bool.{cases_lt, cases_eq, cases_Bool, true≢false, cond-true, cond-false, cond_both, lt-leb, le-leb, le-ltb, and_left}
+use Rattle.std.proofs.lemmas.Nat.Bits.{bit_at-zero, bit_at_and, bit_at_or, bit_at_not, bit_at-pow_same, bit_at-pow_other, bit_at_ones, bit_at-lt, bit_at_above, bit_at_cat_low, bit_at_cat_high, shr_and_one, same_from_bits, same_from_bits_below}
+use Rattle.std.proofs.lemmas.Bool.{cases_lt, cases_eq, true≢false, cond_both, lt-leb, le-leb, le-ltb, and_left}
 use Rattle.std.proofs.lemmas.Bool.Decides.{nat_tests}
 use Rattle.point_sets.specs.Points.{has, set_of}
 
@@ -20,10 +20,6 @@ has_and a b p = grind (arith, nat_tests, bit_at_and a b p, bit_at-lt a p, bit_at
 pub has_or : (a b p : ℕ) → has (bit_or a b) p ≡ (has a p || has b p)
 unfolding has
 has_or a b p = grind (arith, nat_tests, bit_at_or a b p, bit_at-lt a p, bit_at-lt b p)
-
-pub has_xor : (a b p : ℕ) → has (bit_xor a b) p ≡ cond (has b p) (not (has a p)) (has a p)
-unfolding has
-has_xor a b p = grind (arith, nat_tests, bit_at_xor a b p, bit_at-lt a p, bit_at-lt b p)
 
 -- the points of a that are not in b, in words of 64 bits
 pub has_and_not : (a b p : ℕ) → a < 2 ^ 64 → b < 2 ^ 64 → has (bit_and a (2 ^ 64 - 1 - b)) p ≡ (has a p && not (has b p))

@@ -13,8 +13,8 @@ returns c =
     let n = c.args.board.now.n in
     let b = c.args.black in
     let w = c.args.white in
-    let ours = c.living_stones-live in
-    let theirs = c.living_stones in
+    let ours = c.living_stones in
+    let theirs = c.living_stones-2 in
     sym (option_map_id c.find.result)
     ∙ find_from_yields_List (has _) _ _ _ c.find.ensures.ran (YieldsList-from_range 0 (n * n) (n * n) (cc) (omega arith)) (λ x b q k. search (rules, tests))
     ∙ dead_found n b w ours.result theirs.result c.ranges.black.fits c.ranges.white.fits ours.type_inv theirs.type_inv
