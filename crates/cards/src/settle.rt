@@ -93,27 +93,17 @@ fn told_by(exchanges: Vec<Exchange>) -> Result<Told, CardRefusal> {
 }
 
 // Makes both lists of calls in two sessions over the card's tables, with this buffer: the plays of the line; then, in the
-// first, solve, write and check, or the check of a posted proof alone; in the second the check. The proof is in the buffer
-// where both sessions accepted it.
+// first, the work and the check; in the second the check alone. The proof is in the buffer where both sessions accepted it.
 fn attempt<G: Bounded + Drop, F: Fn() -> Result<G, CardRefusal>>(
     heap: Global,
     card: &Card,
-    posted: Option<usize>,
+    work: &[Request],
+    check: Request,
     buffer: &mut [u8],
     make: &F,
 ) -> Result<Told, NoLine>
     requires { F.IsAlwaysCallable make.now }
 {
-    let floor = card.floor();
-    let budget = card.budget();
-    let work = [
-        Request::Solve { floor, budget },
-        Request::Write { floor, budget },
-    ];
-    let (work, check) = match posted {
-        Some(length) => (&work[0..0], Request::Check { length, budget }),
-        None => (&work[0..2], Request::CheckWritten { budget }),
-    };
     let mut lines = vec![in heap; LineRecord::default(); 97]?;
     let mut moves = vec![in heap; Pair::default(); 6_208]?;
     let mut slots: Vec<Option<Entry>> = vec![in heap; None; card.slots() as usize]?;
@@ -140,7 +130,7 @@ fn attempt<G: Bounded + Drop, F: Fn() -> Result<G, CardRefusal>>(
     Ok(told)
 }
 
-// A card without a proof: the buffer grows until the proof fits.
+// A card without a proof is solved and a proof written, in a buffer that grows until the proof fits.
 fn attempt_fresh<G: Bounded + Drop, F: Fn() -> Result<G, CardRefusal>>(
     heap: Global,
     card: &Card,
@@ -148,10 +138,17 @@ fn attempt_fresh<G: Bounded + Drop, F: Fn() -> Result<G, CardRefusal>>(
 ) -> Result<(Told, Vec<u8>), NoLine>
     requires { F.IsAlwaysCallable make.now }
 {
+    let floor = card.floor();
+    let budget = card.budget();
+    let work = [
+        Request::Solve { floor, budget },
+        Request::Write { floor, budget },
+    ];
+    let check = Request::CheckWritten { budget };
     let mut size: usize = 1_048_576;
     for _ in 0..16 {
         let mut buffer = vec![in heap; 0; size]?;
-        match attempt(heap, card, None, &mut buffer, make) {
+        match attempt(heap, card, &work, check, &mut buffer, make) {
             Err(NoLine::Refused(CardRefusal::Write(WriteRefusal::NoRoom))) => {
                 size = size.saturating_mul(8);
             }
@@ -159,7 +156,10 @@ fn attempt_fresh<G: Bounded + Drop, F: Fn() -> Result<G, CardRefusal>>(
         }
     }
     let mut buffer = vec![in heap; 0; size]?;
-    Ok((attempt(heap, card, None, &mut buffer, make)?, buffer))
+    Ok((
+        attempt(heap, card, &work, check, &mut buffer, make)?,
+        buffer,
+    ))
 }
 
 // The side length of the board, by the text of a position in form.
@@ -190,8 +190,11 @@ fn settle<G: Bounded + Drop, F: Fn() -> Result<G, CardRefusal>>(
     let shown = look(card, make()?)?;
     let (told, mut proof) = match posted {
         Some(mut proof) => {
-            let length = proof.len();
-            (attempt(heap, card, Some(length), &mut proof, make)?, proof)
+            let check = Request::Check {
+                length: proof.len(),
+                budget: card.budget(),
+            };
+            (attempt(heap, card, &[], check, &mut proof, make)?, proof)
         }
         None => attempt_fresh(heap, card, make)?,
     };
