@@ -71,6 +71,7 @@ pub fn put_number(bytes: &mut [u8], at: usize, n: u32) -> Option<usize>
     ensures bytes { bytes.new ≡ with_bytes bytes.old at (encode n) }
 {
     let form = form(n);
+    // No `get_mut(at..end)?`: its contract does not tell what a write through it leaves in `bytes`.
     let end = at
         .checked_add(form.len())
         .filter(|end| *end <= bytes.len())?;
