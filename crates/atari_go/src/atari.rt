@@ -36,10 +36,7 @@ fn second_word(x: Place) -> u64
     requires { x.white < 2 ^ 49 }
     ensures { result ≡ x.white + 2 ^ 49 * number_of x.side }
 {
-    match x.side {
-        Side::Black => x.white,
-        Side::White => x.white + (1 << 49),
-    }
+    x.white + (u64::from(x.side.number()) << 49)
 }
 
 // The score of a line at which this side has lost.
@@ -98,15 +95,11 @@ impl Game for AtariGo {
     }
 
     fn moves(&self) -> u32 {
-        count_points(self.here().moves, self.board.n * self.board.n)
+        count_points(self.here().moves, self.board.size())
     }
 
     fn score(&self) -> Option<Score> {
-        if self.moves() == 0 {
-            Some(lost(self.turn()))
-        } else {
-            None
-        }
+        (self.moves() == 0).then(|| lost(self.turn()))
     }
 
     fn a(&self) -> u64 {

@@ -23,7 +23,7 @@ pub struct Opening {
 fn byte_at(text: &[u8], i: usize) -> u8
     ensures { result ≡ slice_index text.now i }
 {
-    text.get(i).map_or(0, |b| *b)
+    text.get(i).copied().unwrap_or(0)
 }
 
 // Whether b may stand at place i of the text of a board of n lines.
@@ -98,9 +98,8 @@ pub fn read_position(text: &[u8]) -> Result<Opening, PositionRefusal>
     if let Some(place) = text_fault(text) {
         return Err(PositionRefusal::OutOfForm { place });
     }
-    let Some(board) = Board::of(u32::from(lines_of(text))) else {
-        return Err(PositionRefusal::OutOfForm { place: 1 });
-    };
+    let board = Board::of(u32::from(lines_of(text)))
+        .ok_or(PositionRefusal::OutOfForm { place: 1 })?;
     let black = stones_of(&board, text, b'B');
     let white = stones_of(&board, text, b'W');
     if let Some(point) = dead_point(&board, black, white) {

@@ -32,7 +32,7 @@ fn end_good(n: &Node) -> bool
     ensures { result ≡ end_good n.now }
 {
     match n.score {
-        255 => 1 <= n.count && n.count <= 4,
+        255 => (1..=4).contains(&n.count),
         0..=2 => n.count == 0,
         _ => false,
     }
@@ -73,7 +73,7 @@ fn fault(nodes: &[Node]) -> Option<usize>
     }
 }
 
-// Side 0 is Black, side 1 White.
+// Side 0 is Black, side 1 White. No `From`: only a graph names sides by numbers, and of a node that is none any number may stand there.
 fn side_of(turn: u8) -> Side
     ensures { result ≡ side_of turn }
 {
@@ -83,7 +83,7 @@ fn side_of(turn: u8) -> Side
     }
 }
 
-// The score of an end, by its points.
+// The score of an end, by its points; none for 255, and for any other number. No `TryFrom`, whose error would be thrown away at each call.
 fn score_of(score: u8) -> Option<Score>
     ensures { result ≡ score_of score }
 {
@@ -101,9 +101,7 @@ impl Graph {
         ensures answer { refused_at result ≡ not_allowed (graph_fault nodes.now) }
         ensures made { elim result [ Ok c ↦ (graph c.nodes.items ≡ graph nodes.now) × (line_of c.history ≡ []) | Err e ↦ Unit {0} ] }
     {
-        let Ok(row) = ArrayVec::try_from(nodes) else {
-            return Err(PositionRefusal::NotAllowed { place: 64 });
-        };
+        let row = ArrayVec::try_from(nodes).map_err(|_| PositionRefusal::NotAllowed { place: 64 })?;
         if let Some(place) = fault(nodes) {
             return Err(PositionRefusal::NotAllowed { place });
         }

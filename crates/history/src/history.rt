@@ -119,9 +119,6 @@ impl<P: Copy> History<P> {
         ensures legal { (m : Meaning) → Reachable m (line_of self.old) → Reachable m (line_of self.new) }
         ensures follows { (stands : Line → P) → Follows stands self.old → Follows stands self.new }
     {
-        match self.steps.pop() {
-            Some(_) => Ok(()),
-            None => Err(Refusal::AtStart),
-        }
+        self.steps.pop().map(|_| ()).ok_or(Refusal::AtStart)
     }
 }

@@ -205,12 +205,10 @@ pub fn check<G: Bounded, L, M>(
     game: &mut G,
     proof: &[u8],
     budget: u32,
-    memory: &mut WorkMemory<'_, L, M>,
+    memory: &WorkMemory<'_, L, M>,
 ) -> Result<CheckedProof, Fault>
-    ensures is { checked_by result ≡ check_in (length memory.old.lines.now) (length memory.old.moves.now) (G.Game.means game.old) (G.Game.line game.old) proof.now budget }
+    ensures is { checked_by result ≡ check_in (length memory.now.lines.now) (length memory.now.moves.now) (G.Game.means game.old) (G.Game.line game.old) proof.now budget }
     ensures kept { Kept G.Game.means G.Game.line game.old game.new }
-    ensures lines { memory.new.lines.now ≡ memory.old.lines.now }
-    ensures moves { memory.new.moves.now ≡ memory.old.moves.now }
 {
     if !memory.suffices() {
         return Err(Fault {

@@ -7,6 +7,7 @@ use Rattle.game.proofs.Plays.{legal_play}
 use Rattle.game.proofs.Bounds.{play_goes}
 use Rattle.game.proofs.Kept.{kept_then}
 use Rattle.store.specs.Interface.{StoreMeaning}
+use Rattle.search_method.proofs.Lending.{lent_then}
 use Rattle.search_method.specs.declared.kinds.Answer.{Answer}
 use Rattle.search_method.specs.declared.kinds.Answer.TheVariants.{Solved}
 use Rattle.search_method.specs.Tree.{Tree, done, bind, Runs}
@@ -32,8 +33,7 @@ leaves_then p q =
       game = kept_then p.game q.game;
       claim = q.claim ∙ p.claim;
       room = q.room ∙ p.room;
-      lines = q.lines ∙ p.lines;
-      moves = q.moves ∙ p.moves;
+      lent = lent_then p.lent q.lent;
     }
 
 -- a legal move goes through

@@ -8,26 +8,22 @@ use search_method::kinds::SolveRefusal;
 // The floor is not 1 or 2; too little work memory; out of budget; the next number does not fit the buffer.
 #[derive(Clone, Copy, PartialEq, Eq, Debug)]
 pub enum WriteRefusal {
-    Floor,
-    Memory,
-    OutOfBudget,
-    NoRoom,
+    Floor = 5,
+    Memory = 6,
+    OutOfBudget = 7,
+    NoRoom = 8,
 }
 
 impl WriteRefusal {
     pub fn number(self) -> u8
         ensures { result ≡ write_number self }
     {
-        match self {
-            WriteRefusal::Floor => 5,
-            WriteRefusal::Memory => 6,
-            WriteRefusal::OutOfBudget => 7,
-            WriteRefusal::NoRoom => 8,
-        }
+        self as u8
     }
 }
 
-// Write is refused with what the search that it begins with is refused with.
+// Write is refused with what the search that it begins with is refused with. It has the two cases itself, so that its callers
+// find the refusals of write in one place.
 impl From<SolveRefusal> for WriteRefusal {
     ghost from_gives = { λ e r. write_number r ≡ refusal_number e };
 

@@ -1,5 +1,6 @@
 // Writing a proof file.
 ghost use Rattle.std.specs.Prelude.{◌≡◌, ◌≤◌, length};
+ghost use Rattle.search_method.specs.Memory.{Lent};
 ghost use Rattle.search_method.specs.Tree.{Runs};
 ghost use Rattle.search.specs.Solve.{count_of};
 ghost use Rattle.game.specs.Kept.{Kept};
@@ -39,8 +40,7 @@ fn put_answer<G: Bounded, S: Store>(
     requires counted { count_of answer ≤ budget }
     ensures is { Runs S.Store.store (after_solve 7 (G.Game.means game.old) (G.Game.line game.old) floor budget (length out.old) answer) store.old store.new (written_by out.new result) }
     ensures past { Past out.old out.new result }
-    ensures lines { length memory.new.lines.now ≡ length memory.old.lines.now }
-    ensures moves { length memory.new.moves.now ≡ length memory.old.moves.now }
+    ensures lent { Lent memory.old memory.new }
     ensures kept { Kept G.Game.means G.Game.line game.old game.new }
 {
     let Answer::Solved { yes, best, count } = answer else {
@@ -77,8 +77,7 @@ pub fn write<G: Bounded, S: Store>(
     ensures is { Runs S.Store.store (write_in (length memory.old.lines.now) (length memory.old.moves.now) (G.Game.means game.old) (G.Game.line game.old) floor budget (length out.old)) store.old store.new (written_by out.new result) }
     ensures buffer { out.new ≡ buffer out.old (written_by out.new result) }
     ensures fits { Fits out.new result }
-    ensures lines { length memory.new.lines.now ≡ length memory.old.lines.now }
-    ensures moves { length memory.new.moves.now ≡ length memory.old.moves.now }
+    ensures lent { Lent memory.old memory.new }
     ensures kept { Kept G.Game.means G.Game.line game.old game.new }
 {
     let answer = solve(game, store, floor, budget, memory)?;

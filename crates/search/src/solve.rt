@@ -3,6 +3,7 @@ ghost use Rattle.std.specs.Prelude.{◌≡◌, ℕ, ◌≤◌, length};
 ghost use Rattle.search_method.specs.Refusals.{refusal_due};
 ghost use Rattle.search_method.specs.Bound.{BudgetEnough};
 ghost use Rattle.search_method.specs.Truth.{VerdictsTrue};
+ghost use Rattle.search_method.specs.Memory.{Lent};
 ghost use Rattle.search_method.specs.Tree.{Runs};
 ghost use Rattle.search_method.specs.Search.{answer, solve as solved};
 ghost use Rattle.game.specs.Kept.{Kept};
@@ -57,8 +58,7 @@ fn run<G: Bounded, S: Store>(
     requires room { 6208 ≤ length memory.old.moves.now }
     ensures runs { Runs S.Store.store (solved (G.Game.means game.old) (G.Game.line game.old) floor budget) store.old store.new result }
     ensures within { count_of result ≤ budget }
-    ensures lines { length memory.new.lines.now ≡ length memory.old.lines.now }
-    ensures moves { length memory.new.moves.now ≡ length memory.old.moves.now }
+    ensures lent { Lent memory.old memory.new }
     ensures kept { Kept G.Game.means G.Game.line game.old game.new }
 {
     if let Some(score) = game.score() {
@@ -91,8 +91,7 @@ pub fn solve<G: Bounded, S: Store>(
 ) -> Result<Answer, SolveRefusal>
     ensures answers { Answers S.Store.store (solved (G.Game.means game.old) (G.Game.line game.old) floor budget) (refusal_due floor (length memory.old.lines.now) (length memory.old.moves.now)) store.old store.new result }
     ensures within { Within budget result }
-    ensures lines { length memory.new.lines.now ≡ length memory.old.lines.now }
-    ensures moves { length memory.new.moves.now ≡ length memory.old.moves.now }
+    ensures lent { Lent memory.old memory.new }
     ensures kept { Kept G.Game.means G.Game.line game.old game.new }
     ensures sound { VerdictsTrue S.Store.store }
     ensures enough { BudgetEnough }

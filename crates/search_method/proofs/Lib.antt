@@ -7,3 +7,4 @@ pub mod Evaluation
 pub mod Expansion
 pub mod Truth
 pub mod Bound
+pub mod Lending

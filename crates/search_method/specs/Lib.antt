@@ -1,6 +1,7 @@
 pub mod Kinds
 pub mod Refusals
 pub mod Claims
+pub mod Memory
 pub mod Tree
 pub mod Pairs
 pub mod Search

@@ -2,6 +2,11 @@
 ghost use Rattle.std.specs.Prelude.{◌≡◌, length};
 ghost use Rattle.search_method.specs.Refusals.{memory_suffices};
 
+// Line records for a game of 96 moves, and move records for the 64 moves of each line.
+pub const LINES: usize = 97;
+
+pub const MOVES: usize = 6_208;
+
 // A record for each line that is being expanded, and one for each of its moves. What they are is the search's own: what
 // only has to know whether there are enough is generic in both.
 #[derive(Drop)]
@@ -11,10 +16,10 @@ pub struct WorkMemory<'a, L, M> {
 }
 
 impl<L, M> WorkMemory<'_, L, M> {
-    // Whether a game of 96 moves fits: 97 line records, and 64 move records for each of them.
+    // Whether a game of 96 moves fits.
     pub fn suffices(&self) -> bool
         ensures { result ≡ memory_suffices (length self.now.lines.now) (length self.now.moves.now) }
     {
-        self.lines.len() >= 97 && self.moves.len() >= 6_208
+        self.lines.len() >= LINES && self.moves.len() >= MOVES
     }
 }

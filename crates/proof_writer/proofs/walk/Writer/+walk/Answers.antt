@@ -22,8 +22,7 @@ step-returns-clause-leaves g t c =
       game = visited c.play.ensures.same goes below.game c.take_back.ensures.same c.take_back.ensures.moved;
       claim = below.claim;
       room = below.room;
-      lines = below.lines;
-      moves = below.moves;
+      lent = below.lent;
     }
 
 pub own-returns-in_err-after-clause-is : goal.own-returns-in_err-after-clause-is
