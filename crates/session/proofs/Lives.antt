@@ -5,6 +5,7 @@ use Rattle.std.proofs.Math.Seq.{map-set_same}
 use Rattle.game.specs.Meaning.{Line, Meaning, Reachable}
 use Rattle.store.specs.Interface.{StoreMeaning}
 use Rattle.life.specs.Life.{Memory, Event, Step, Life}
+use Rattle.search_method.proofs.Lending.{lent_same, lent_then}
 use Rattle.session.specs.declared.request.Request.{Request}
 use Rattle.session.specs.declared.request.Reply.{Reply}
 use Rattle.session.specs.declared.request.Exchange.{Exchange}
@@ -46,4 +47,4 @@ pub ran_over : {S : Type 0} {m : Meaning} {𝓢 : StoreMeaning S} {start : Line}
     {s : S} {b c : List ℕ} {n : ℕ} → c ≡ b → v ≡ w → Lived m 𝓢 start given v d xs l s (desk b n) → Lived m 𝓢 start given w d xs l s (desk c n)
 ran_over bytes memory lived = rw (bytes, ← memory) lived
 
-pub ruleset lives = (asked_next, lived_opened, lived_next)
+pub ruleset lives = (asked_next, lived_opened, lived_next, lent_same, lent_then)

@@ -21,7 +21,7 @@ use Rattle.proof_file.specs.declared.check.CheckedProof.{CheckedProof}
 use Rattle.proof_file.specs.Faults.{checked_by}
 use Rattle.life.specs.Life.{Memory, Call, Answer, Step}
 use Rattle.session.specs.declared.request.Request.{Request}
-use Rattle.session.specs.declared.request.Reply.TheVariants.{Moved, Solved, Written, Checked}
+use Rattle.session.specs.declared.request.Reply.TheVariants.{Done, Solved, Written, Checked}
 use Rattle.session.specs.Requests.{Desk, call_of, answer_of}
 
 -- the answer to a move, by its number
@@ -29,7 +29,7 @@ abbrev moved_by : ℕ → Answer
 moved_by zero = Answer.done
 moved_by (suc n) = Answer.refused (suc n)
 
-answers_moved : (b : List ℕ) (r : Result (Unit {0}) Refusal) → moved_by (refused_by r) ≡ answer_of b (Moved r)
+answers_moved : (b : List ℕ) (r : Result (Unit {0}) Refusal) → moved_by (refused_by r) ≡ answer_of b (Done r)
 answers_moved b (Ok u) = refl
 answers_moved b (Err NoSuchMove) = refl
 answers_moved b (Err LineOver) = refl
@@ -49,12 +49,12 @@ module _ {S : Type 0} (m : Meaning) (𝓢 : StoreMeaning S) (l k : Line) (s t : 
   moved i (suc n) e = Step.not_played (sym e)
 
   pub play_step : (i : ℕ) (r : Result (Unit {0}) Refusal) → call_of w d q ≡ Call.play i → refused_by r ≡ play_answer m l i → k ≡ played_line m l i → t ≡ s →
-      Step m 𝓢 l s (call_of w d q) (answer_of b (Moved r)) k t
+      Step m 𝓢 l s (call_of w d q) (answer_of b (Done r)) k t
   play_step i r call e line state =
       rw (call, subst (λ (n : ℕ). k ≡ line_after n (i ∷ l) l) (sym e) line, state, ← answers_moved b r) (moved i (refused_by r) e)
 
   pub take_step : (r : Result (Unit {0}) Refusal) → call_of w d q ≡ Call.take_back → refused_by r ≡ back_answer l → k ≡ shorter l → t ≡ s →
-      Step m 𝓢 l s (call_of w d q) (answer_of b (Moved r)) k t
+      Step m 𝓢 l s (call_of w d q) (answer_of b (Done r)) k t
   take_step r call e line state = rw (call, line, state, ← answers_moved b r, e) (back m 𝓢 s l)
 
   pub clear_step : call_of w d q ≡ Call.clear → 𝓢.clears s t → k ≡ l → Step m 𝓢 l s (call_of w d q) Answer.done k t

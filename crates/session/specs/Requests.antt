@@ -11,7 +11,7 @@ use Rattle.session.specs.declared.step.Desk.{Desk as Lent}
 use Rattle.session.specs.declared.request.Request.{Request}
 use Rattle.session.specs.declared.request.Request.TheVariants.{Play, TakeBack, Clear, Solve, Write, Check, CheckWritten}
 use Rattle.session.specs.declared.request.Reply.{Reply}
-use Rattle.session.specs.declared.request.Reply.TheVariants.{Moved, Cleared, Solved, Written, Checked}
+use Rattle.session.specs.declared.request.Reply.TheVariants.{Done, Solved, Written, Checked}
 use Rattle.session.specs.declared.request.Exchange.{Exchange}
 
 -- the buffer that is lent to all calls, and how many of its first bytes the last write put there
@@ -42,9 +42,8 @@ call_of w d (CheckWritten budget) = check (take d.written d.bytes) budget w
 
 -- the answer that a reply tells, with what the buffer then holds
 abbrev pub answer_of : List ℕ → Reply → Answer
-answer_of after (Moved (Ok moved)) = done
-answer_of after (Moved (Err r)) = refused (refusal_number r)
-answer_of after Cleared = done
+answer_of after (Done (Ok u)) = done
+answer_of after (Done (Err r)) = refused (refusal_number r)
 answer_of after (Solved (Ok a)) = found a
 answer_of after (Solved (Err r)) = refused (solve_number r)
 answer_of after (Written r) = wrote (written_by after r) after
@@ -52,8 +51,7 @@ answer_of after (Checked r) = checked (checked_by r)
 
 -- what a call that replied so leaves of the buffer: only a write changes it
 abbrev pub Leaves : Reply → Desk → Desk → Type 0
-Leaves (Moved r) d e = e ≡ d
-Leaves Cleared d e = e ≡ d
+Leaves (Done r) d e = e ≡ d
 Leaves (Solved r) d e = e ≡ d
 Leaves (Written (Ok p)) d e = e.written ≡ p.length
 Leaves (Written (Err r)) d e = e.written ≡ 0

@@ -1,5 +1,6 @@
 // Requests, one after another, in a session.
 ghost use Rattle.std.specs.Prelude.{◌≡◌};
+ghost use Rattle.search_method.specs.Memory.{Lent};
 ghost use Rattle.session.specs.Requests.{desk_of, room_of, asked};
 ghost use Rattle.session.specs.Runs.{Ran};
 
@@ -24,6 +25,7 @@ pub(crate) fn live<G: Bounded, S: Store>(
     ensures ran { Ran (G.Game.means game) S.Store.store (G.Game.line game) store (room_of memory.old) exchanges.new (G.Game.line result.game) result.store (desk_of desk.old) (desk_of desk.new) }
     ensures same_buffer { desk.new.bytes.ghost_name ≡ desk.old.bytes.ghost_name }
     ensures room { room_of memory.new ≡ room_of memory.old }
+    ensures lent { Lent memory.old memory.new }
 {
     let mut session = Session::open(game, store);
     for exchange in exchanges.iter_mut() {

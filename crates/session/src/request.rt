@@ -19,11 +19,11 @@ pub enum Request {
     CheckWritten { budget: u32 },
 }
 
-// What a call answered. An accepted proof is handed out to the caller.
+// What a call answered: that it was done, which a play, a take back and a clear answer, or why not; and what the other three
+// calls answer. An accepted proof is handed out to the caller.
 #[derive(Drop)]
 pub enum Reply {
-    Moved(Result<(), Refusal>),
-    Cleared,
+    Done(Result<(), Refusal>),
     Solved(Result<Answer, SolveRefusal>),
     Written(Result<Written, WriteRefusal>),
     Checked(Result<CheckedProof, Fault>),

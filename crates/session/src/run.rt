@@ -1,6 +1,7 @@
 // The call that opens two sessions.
 ghost use Rattle.std.specs.Prelude.{◌≡◌};
 ghost use Rattle.life.specs.Promise.{Promised};
+ghost use Rattle.search_method.specs.Memory.{Lent};
 ghost use Rattle.session.specs.Requests.{room_of, asked};
 ghost use Rattle.session.specs.Runs.{Ran, InTurn};
 
@@ -30,7 +31,7 @@ pub fn in_two_sessions<G: Bounded, S: Store, K: Bounded, R: Store>(
     ensures same { (G.Game.means result.0.game ≡ G.Game.means game) × (K.Game.means result.1.game ≡ K.Game.means other_game) }
     ensures asked { (asked exchanges.new ≡ asked exchanges.old) × (asked other_exchanges.new ≡ asked other_exchanges.old) }
     ensures ran { InTurn (Ran (G.Game.means game) S.Store.store (G.Game.line game) store (room_of memory.old) exchanges.new (G.Game.line result.0.game) result.0.store) (Ran (K.Game.means other_game) R.Store.store (K.Game.line other_game) other_store (room_of memory.old) other_exchanges.new (K.Game.line result.1.game) result.1.store) bytes.old bytes.new }
-    ensures room { room_of memory.new ≡ room_of memory.old }
+    ensures lent { Lent memory.old memory.new }
     ensures promised { Promised S.Store.store R.Store.store }
 {
     let mut desk = Desk { bytes, written: 0 };

@@ -10,7 +10,7 @@ ghost use Rattle.proof_method.specs.Check.{check_in};
 ghost use Rattle.proof_method.specs.Write.{write_in, buffer};
 ghost use Rattle.proof_writer.specs.Writing.{written_by, Fits};
 ghost use Rattle.proof_file.specs.Faults.{checked_by};
-ghost use Rattle.session.specs.Requests.{room_of};
+ghost use Rattle.search_method.specs.Memory.{Lent};
 
 use game::interface::Bounded;
 use game::refusal::Refusal;
@@ -84,7 +84,7 @@ impl<G: Bounded, S: Store> Session<G, S> {
     ) -> Result<Answer, SolveRefusal>
         ensures answers { Answers S.Store.store (solving (G.Game.means self.old.game) (G.Game.line self.old.game) floor budget) (refusal_due floor (length memory.old.lines.now) (length memory.old.moves.now)) self.old.store self.new.store result }
         ensures within { Within budget result }
-        ensures room { room_of memory.new ≡ room_of memory.old }
+        ensures lent { Lent memory.old memory.new }
         ensures kept { Kept G.Game.means G.Game.line self.old.game self.new.game }
     {
         solve(&mut self.game, &mut self.store, floor, budget, memory)
@@ -101,7 +101,7 @@ impl<G: Bounded, S: Store> Session<G, S> {
         ensures is { Runs S.Store.store (write_in (length memory.old.lines.now) (length memory.old.moves.now) (G.Game.means self.old.game) (G.Game.line self.old.game) floor budget (length out.old)) self.old.store self.new.store (written_by out.new result) }
         ensures buffer { out.new ≡ buffer out.old (written_by out.new result) }
         ensures fits { Fits out.new result }
-        ensures room { room_of memory.new ≡ room_of memory.old }
+        ensures lent { Lent memory.old memory.new }
         ensures kept { Kept G.Game.means G.Game.line self.old.game self.new.game }
     {
         write(&mut self.game, &mut self.store, floor, budget, memory, out)
@@ -117,8 +117,7 @@ impl<G: Bounded, S: Store> Session<G, S> {
         ensures is { checked_by result ≡ check_in (length memory.old.lines.now) (length memory.old.moves.now) (G.Game.means self.old.game) (G.Game.line self.old.game) proof.now budget }
         ensures kept { Kept G.Game.means G.Game.line self.old.game self.new.game }
         ensures store { self.new.store ≡ self.old.store }
-        ensures lines { memory.new.lines.now ≡ memory.old.lines.now }
-        ensures moves { memory.new.moves.now ≡ memory.old.moves.now }
+        ensures memory { memory.new ≡ memory.old }
     {
         check(&mut self.game, proof, budget, memory)
     }

@@ -1,5 +1,6 @@
 // One request of a session.
 ghost use Rattle.std.specs.Prelude.{◌≡◌, take};
+ghost use Rattle.search_method.specs.Memory.{Lent};
 ghost use Rattle.session.specs.Requests.{desk_of, room_of, call_of, answer_of, Leaves};
 ghost use Rattle.session.specs.Runs.{Makes};
 
@@ -47,13 +48,14 @@ impl<G: Bounded, S: Store> Session<G, S> {
         ensures leaves { Leaves result (desk_of desk.old) (desk_of desk.new) }
         ensures same_buffer { desk.new.bytes.ghost_name ≡ desk.old.bytes.ghost_name }
         ensures room { room_of memory.new ≡ room_of memory.old }
+        ensures lent { Lent memory.old memory.new }
     {
         match request {
-            Request::Play { k } => Reply::Moved(self.play(k)),
-            Request::TakeBack => Reply::Moved(self.take_back()),
+            Request::Play { k } => Reply::Done(self.play(k)),
+            Request::TakeBack => Reply::Done(self.take_back()),
             Request::Clear => {
                 self.clear();
-                Reply::Cleared
+                Reply::Done(Ok(()))
             }
             Request::Solve { floor, budget } => Reply::Solved(self.solve(floor, budget, memory)),
             Request::Write { floor, budget } => {

@@ -1,4 +1,5 @@
 use Rattle.std.proofs.Common.{◌≡◌, take}
+use Rattle.search_method.specs.Memory.{Lent}
 use Rattle.session.specs.Requests.{desk_of, room_of, asked}
 use Rattle.session.specs.Runs.{Ran}
 use Rattle.session.proofs.living.live.Given as goal
@@ -12,4 +13,5 @@ invariant-loop-exchange g l =
           (take l.exchange-index l.exchanges) (g.G.Game.line l.session.game) l.session.store (desk_of l.initial.desk) (desk_of l.desk);
       same_buffer : l.desk.bytes.ghost_name ≡ l.initial.desk.bytes.ghost_name;
       room : room_of l.memory ≡ room_of l.initial.memory;
+      lent : Lent l.initial.memory l.memory;
     }

@@ -1,5 +1,6 @@
 use Rattle.std.proofs.Common.{rules}
 use Rattle.life.proofs.Keeping.{promised as keeps}
+use Rattle.search_method.proofs.Lending.{lent_then}
 use Rattle.session.specs.Requests.{desk_of, room_of}
 use Rattle.session.proofs.Lives.{ran_over}
 use Rattle.session.proofs.run.in_two_sessions.Goals as goal
@@ -16,3 +17,6 @@ returns-clause-ran g c =
 
 pub returns-clause-promised : goal.returns-clause-promised
 returns-clause-promised g c = keeps g.S.Store.store g.R.Store.store
+
+pub returns-clause-lent : goal.returns-clause-lent
+returns-clause-lent g c = lent_then c.live-first.ensures.lent c.live-second.ensures.lent
