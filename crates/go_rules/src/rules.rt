@@ -1,4 +1,5 @@
-// Free points, groups with a liberty, and legal moves.
+// Free points, groups with a liberty, and legal moves. They are functions over a board and sets of points: as methods of the
+// board they would only say its name in another place.
 ghost use Rattle.std.specs.Prelude.{◌≡◌, ℕ, ◌<◌, true, bit_and};
 ghost use Rattle.point_sets.specs.Points.{has};
 ghost use Rattle.go_rules.specs.Groups.{around, OnBoard};

@@ -98,8 +98,10 @@ pub fn read_position(text: &[u8]) -> Result<Opening, PositionRefusal>
     if let Some(place) = text_fault(text) {
         return Err(PositionRefusal::OutOfForm { place });
     }
-    let board = Board::of(u32::from(lines_of(text)))
-        .ok_or(PositionRefusal::OutOfForm { place: 1 })?;
+    // A text in form tells a size that there is. No `ok_or(..)?`: it was tried, and the proof that it never fails did not close.
+    let Some(board) = Board::of(u32::from(lines_of(text))) else {
+        return Err(PositionRefusal::OutOfForm { place: 1 });
+    };
     let black = stones_of(&board, text, b'B');
     let white = stones_of(&board, text, b'W');
     if let Some(point) = dead_point(&board, black, white) {

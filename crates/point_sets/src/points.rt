@@ -22,7 +22,8 @@ pub fn count_points(m: u64, size: u32) -> u32
     }
 }
 
-// Point number k of the points of m below size, or 0 where there are no more than k.
+// Point number k of the points of m below size, or 0 where there are no more than k, as the definition of a move has it: who asks
+// for a move that there is needs no test of an `Option`.
 pub fn nth_point(m: u64, size: u32, k: u32) -> u32
     ensures { result ≡ slice_index (list_of size (has m)) k }
 {

@@ -72,7 +72,8 @@ fn read_claim(proof: &[u8], at: usize, low: u32, high: u32) -> Result<Number, Fa
     Ok(number)
 }
 
-// The walk through a proof whose claim was read.
+// The walk through a proof whose claim was read. The game is no part of it: lent as a whole, the proof and the claim cannot
+// change, and no clause has to say so. Nor is the state, which only a walk that goes on hands back.
 #[derive(Drop)]
 struct Walker<'a> {
     proof: &'a [u8],

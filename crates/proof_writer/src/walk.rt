@@ -24,7 +24,8 @@ fn put(out: &mut [u8], state: State, number: u32) -> Result<State, WriteRefusal>
 }
 
 // What the walk works with. No search is refused, as the floor can be asked for and there is memory enough. Each reference
-// has a lifetime of its own: with one for all of them the function that lends them gets no proof.
+// has a lifetime of its own: with one for all of them the function that lends them gets no proof. The place and the plays left
+// are no part of it, since only a step that goes on hands them back.
 #[derive(Drop)]
 pub(crate) struct Writer<'g, 's, 'a, 'm, 'o, G: Bounded, S: Store> {
     pub(crate) game: &'g mut G,

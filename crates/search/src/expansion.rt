@@ -1,7 +1,8 @@
 // The expansion of a line: its most promising move is expanded, turn after turn, until a limit is reached.
 //
 // The work memory goes down as two slices, of which each line splits off its own part. The facts about a limit stand in
-// the contracts, and in no type: the caller of the search may make a `LineRecord` of any numbers.
+// the contracts, and in no type: the caller of the search may make a `LineRecord` of any numbers, and a limit is a pair as the
+// definition has it, of which a store may show any.
 ghost use Rattle.std.specs.Prelude.{◌≡◌, ℕ, ◌-◌, ◌*◌, ◌<◌, ◌≤◌, length};
 ghost use Rattle.std.specs.List.{All};
 ghost use Rattle.search_method.specs.Search.{moves_left};

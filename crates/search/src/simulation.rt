@@ -11,8 +11,8 @@ use search_method::claim::Claim;
 use store::entry::{Entry, Finding};
 use store::interface::Store;
 
-// What a simulation does at a line that is not over: it stops, or goes on with one move, or with all. To decide it apart
-// from doing it keeps each of the two short.
+// What a simulation does at a line that is not over: it stops, or goes on with one move, or with all. It is decided apart, over
+// plain values, and proved there; in one function with the plays each way out would have to show the cases of the definition too.
 #[derive(Clone, Copy)]
 pub(crate) enum Step {
     Stop(bool),

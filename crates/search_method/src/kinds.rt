@@ -18,7 +18,8 @@ pub struct Worked {
     pub finding: Finding,
 }
 
-// What a search answers: a verdict with its move, or that the budget did not suffice; each with the plays made.
+// What a search answers: a verdict with its move, or that the budget did not suffice; each with the plays made. The move is
+// promised and printed as 255 where there is none to show, so that it is a number here too, as in a `Finding`.
 #[derive(Clone, Copy, PartialEq, Eq, Debug)]
 pub enum Answer {
     Solved { yes: bool, best: u8, count: u32 },

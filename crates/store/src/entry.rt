@@ -15,8 +15,8 @@ pub enum Finding {
     Verdict {
         yes: bool,
         independent: bool,
-        // The winning move, or 255 where no one move wins. No `Option`: a store may hand out any number here, and its reader tests
-        // it against the moves.
+        // The winning move, or 255 where no one move wins. No `Option`: answers are promised and printed with that number, and as a
+        // store may hand out any number here, its reader has to test it against the moves all the same.
         best: u8,
     },
     Open {
