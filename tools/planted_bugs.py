@@ -12,15 +12,17 @@ TOP = pathlib.Path(__file__).resolve().parent.parent
 
 
 def fields(edit):
-    """The file, the old and the new text of an edit."""
-    return [line.split(': ', 1)[1] if ': ' in line else '' for line in edit.read_text().rstrip('\n').split('\n')]
+    """The old and the new texts of an edit."""
+    lines = [line.split(': ', 1) for line in edit.read_text().rstrip('\n').split('\n')]
+    texts = {kind: [line[1] if len(line) > 1 else '' for line in lines if line[0].rstrip(':') == kind] for kind in ('old', 'new')}
+    return texts['old'], texts['new']
 
 
 def refusals(log):
     """Where the prover refused each edit first: the place and the goal."""
     found = {}
     for line in log.read_text().split('\n'):
-        m = re.match(r'rt: must-fail (\w+)/(\w+)\.edit: refused, as it must be: \w+: (src/\S+?):\d+:\d+: (.*)', line)
+        m = re.match(r'rt: must-fail (\w+)/(\w+)\.edit: refused, as it must be: (?:\w+: )?(?:\./)?((?:src|proofs)/\S+?):\d+:\d+: (.*)', line)
         if m:
             goal = re.search(r'\(`([^`]*)`\)', m.group(4))
             found[m.group(1, 2)] = f'`{m.group(3)}`: ' + (f'goal `{goal.group(1)}`' if goal else m.group(4))
@@ -28,7 +30,7 @@ def refusals(log):
 
 
 def since(edit):
-    found = subprocess.run(['git', 'log', '--diff-filter=A', '--format=%as', '--', str(edit)], cwd=TOP, capture_output=True, text=True)
+    found = subprocess.run(['git', 'log', '--follow', '--diff-filter=A', '--format=%as', '--', str(edit)], cwd=TOP, capture_output=True, text=True)
     return (found.stdout.split() or ['new'])[-1]
 
 
@@ -45,10 +47,10 @@ def main():
             continue
         print(f'\n### {crate}\n\n| edit | in place of | planted | refused by | since |\n|---|---|---|---|---|')
         for edit in edits:
-            file, old, new = (fields(edit) + [''] * 3)[:3]
+            old, new = (' and '.join(map(code, texts)) for texts in fields(edit))
             label = edit.stem.replace('_', ' ')
             by = refused.get((crate, edit.stem), 'not tried')
-            print(f'| {label} | {code(old)} | {code(new)} | {by} | {since(edit)} |')
+            print(f'| {label} | {old} | {new} | {by} | {since(edit)} |')
 
 
 main()
