@@ -8,8 +8,9 @@ use thiserror::Error;
 
 // The rule layers over the position's game, in the order in which the line lays them. Each stack of layers is a game of a
 // type of its own, so that the stacks are counted out.
-#[derive(Clone, Copy, PartialEq, Eq, Debug)]
+#[derive(Clone, Copy, Default, PartialEq, Eq, Debug)]
 pub(crate) enum Rules {
+    #[default]
     Plain,
     Repeat,
     Limit(u32),
@@ -70,6 +71,7 @@ pub(crate) enum Why {
     NoFile,
 }
 
+// The search laboratory has the same cases for a type of its own: one function for both would be no shorter.
 impl From<FromHexError> for Why {
     fn from(error: FromHexError) -> Why {
         match error {
@@ -88,7 +90,7 @@ pub(crate) struct NotCard {
 }
 
 // A position, the rules over it, and what was said by words; what was not has a default.
-#[derive(Drop)]
+#[derive(Default, Drop)]
 pub(crate) struct Card<'a> {
     pub(crate) position: &'a [u8],
     pub(crate) rules: Rules,
@@ -118,10 +120,7 @@ impl<'a> Card<'a> {
     }
 
     pub(crate) fn line(&self) -> &[u32] {
-        match &self.line {
-            Some(line) => line.as_slice(),
-            None => &[],
-        }
+        self.line.as_deref().unwrap_or(&[])
     }
 
     // That there is no memory for the card: it is laid to the number of slots, or to the position where none stands.
@@ -183,6 +182,8 @@ fn asked(digits: &[u8]) -> Result<u32, Why> {
     decimal(digits).ok_or(Why::NotNumber)
 }
 
+// The search laboratory reads its lines so too, but from `str` and with an error of its own: a function for both would be
+// handed the reading and the error, which is all that this one does.
 fn moves_of(heap: Global, text: &[u8]) -> Result<Vec<u32>, Why> {
     text.split(|byte| *byte == b',')
         .map(|digits| decimal(digits).ok_or(Why::NotMoves))
@@ -204,19 +205,12 @@ pub(crate) fn card_of(heap: Global, text: &[u8]) -> Result<Card<'_>, NotCard> {
         .enumerate();
     let mut card = Card {
         position: fields.next().map_or(&[], |(_, position)| position),
-        rules: Rules::Plain,
-        floor: None,
-        slots: None,
-        tablet: None,
-        budget: None,
-        line: None,
-        posted: None,
+        ..Card::default()
     };
     for (before, word) in fields {
         let field = before.saturating_add(1);
-        if let Err(why) = card.take_word(heap, field, word) {
-            return Err(NotCard { field, why });
-        }
+        card.take_word(heap, field, word)
+            .map_err(|why| NotCard { field, why })?;
     }
     Ok(card)
 }

@@ -42,7 +42,7 @@ fn print_settled(rt: &HostRuntime, o: &Options, number: u32, s: &Settled) -> io:
     println!(rt; "{line}")?;
     if let Some(folder) = &o.out {
         let name = format!(in rt.alloc(); "{folder}/card-{number}.proof")?;
-        fs::write(rt, name.as_str(), s.proof.as_slice())?;
+        fs::write(rt, &name, &s.proof)?;
     }
     if o.quiet {
         return Ok(());
@@ -52,7 +52,7 @@ fn print_settled(rt: &HostRuntime, o: &Options, number: u32, s: &Settled) -> io:
         let word = if yes { "yes" } else { "no" };
         println!(rt; "  solved {word}, move {best}, plays {count}")?;
     }
-    println!(rt; "  proof {}", hex::encode(rt.alloc(), s.proof.as_slice())?)?;
+    println!(rt; "  proof {}", hex::encode(rt.alloc(), &s.proof)?)?;
     println!(rt; "  checked again with {} slots", s.tablet)
 }
 
@@ -61,6 +61,7 @@ fn posted_bytes(
     rt: &HostRuntime,
     posted: Option<Word<Posted<'_>>>,
 ) -> Result<Option<Vec<u8>>, NotCard> {
+    // No `map` and `transpose`: the proof of a closure that is handed the host does not close.
     let Some(Word { field, value }) = posted else {
         return Ok(None);
     };

@@ -94,7 +94,7 @@ fn fault_in_words<W: fmt::Write>(fault: &Fault, f: &mut fmt::Formatter<W>) -> fm
         "refused {}, place {place}, depth {depth}",
         fault.number()
     )?;
-    if let Reason::Refused(refusal) = reason {
+    if let Some(refusal) = fault.refusal() {
         write!(f, ", carrying {}", refusal.number())?;
     }
     write!(f, ": {}", fault_words(reason))

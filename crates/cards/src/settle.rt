@@ -20,7 +20,8 @@ use std::iter;
 use store::entry::Entry;
 use store::table::Table;
 
-// What solving answered: the verdict, its move and the plays made.
+// What solving answered: the verdict, its move and the plays made. No `Answer`, which may also be out of budget: such a card
+// is refused, and has nothing to show.
 #[derive(Clone, Copy)]
 pub(crate) struct Solved {
     pub(crate) yes: bool,
@@ -102,6 +103,7 @@ fn attempt<G: Bounded + Drop, F: Fn() -> Result<G, CardRefusal>>(
     buffer: &mut [u8],
     make: &F,
 ) -> Result<Told, NoLine>
+    // Each function that calls a closure of its caller asks that it may be called, here and below.
     requires { F.IsAlwaysCallable make.now }
 {
     let mut lines = vec![in heap; LineRecord::default(); 97]?;
@@ -145,24 +147,19 @@ fn attempt_fresh<G: Bounded + Drop, F: Fn() -> Result<G, CardRefusal>>(
         Request::Write { floor, budget },
     ];
     let check = Request::CheckWritten { budget };
-    let mut size: usize = 1_048_576;
-    for _ in 0..16 {
+    // The sizes end past any memory: the last saturates, so that there is no such buffer, if not one before it.
+    for step in 0..16 {
+        let size = 1_048_576_usize.saturating_mul(8_usize.saturating_pow(step));
         let mut buffer = vec![in heap; 0; size]?;
         match attempt(heap, card, &work, check, &mut buffer, make) {
-            Err(NoLine::Refused(CardRefusal::Write(WriteRefusal::NoRoom))) => {
-                size = size.saturating_mul(8);
-            }
+            Err(NoLine::Refused(CardRefusal::Write(WriteRefusal::NoRoom))) => {}
             told => return Ok((told?, buffer)),
         }
     }
-    let mut buffer = vec![in heap; 0; size]?;
-    Ok((
-        attempt(heap, card, &work, check, &mut buffer, make)?,
-        buffer,
-    ))
+    Err(NoLine::NoMemory(AllocError))
 }
 
-// The side length of the board, by the text of a position in form.
+// The side length of the board, by the text of a position in form. The layers over the game do not tell it.
 fn board_size(position: &[u8]) -> u32 {
     position
         .get(1)

@@ -1,6 +1,7 @@
 // Boards in words.
 use game::interface::Game;
 use game::kinds::{Score, Side};
+use point_sets::points::has_point;
 use std::fmt;
 
 // What is shown of a present line: the board, and who is on turn or has won.
@@ -12,10 +13,6 @@ pub(crate) struct Shown {
     turn: Side,
     moves: u32,
     score: Option<Score>,
-}
-
-fn has(mask: u64, point: u32) -> bool {
-    mask.checked_shr(point).is_some_and(|word| word & 1 == 1)
 }
 
 impl Shown {
@@ -33,9 +30,9 @@ impl Shown {
 
     fn stone(&self, row: u32, column: u32) -> char {
         let point = row.saturating_mul(self.size).saturating_add(column);
-        if has(self.a, point) {
+        if has_point(self.a, point) {
             'B'
-        } else if has(self.b, point) {
+        } else if has_point(self.b, point) {
             'W'
         } else {
             '.'

@@ -1,5 +1,5 @@
 // How fast plays are: walks the game tree of a position depth first, playing and taking back every move, up to a number of
-// plays, and prints how many it made. The number is the first argument, or 200000.
+// plays, and prints how many it made. The number is the last argument that is one, or 200000.
 #![tactic(auto)]
 
 use atari_go::atari::AtariGo;
@@ -24,13 +24,12 @@ fn walk<G: Game>(game: &mut G, d: u32, plays: u64) -> u64 {
 
 // The plays of a walk from the position of a text; 0 where it is refused.
 fn plays(text: &[u8], limit: u64) -> u64 {
-    match AtariGo::read(text) {
-        Ok(mut game) => limit.saturating_sub(walk(&mut game, 49, limit)),
-        Err(_) => 0,
-    }
+    AtariGo::read(text).map_or(0, |mut game| {
+        limit.saturating_sub(walk(&mut game, 49, limit))
+    })
 }
 
-// The number of plays that the command line asks for; 200000 where it has no number.
+// The last number among the arguments, or 200000 where none is a number.
 fn read_limit(rt: &HostRuntime) -> io::Result<u64> {
     Ok(
         env::args(rt)?

@@ -4,12 +4,15 @@
 #[cfg(test)]
 mod tests {
     use game::interface::{Bounded, Game, Layer};
-    use game::refusal::PositionRefusal;
+    use game::kinds::Score;
+    use game::refusal::{PositionRefusal, Refusal};
     use graph::graph::Graph;
     use graph_rules::node::Node;
     use layers::limit::Limit;
     use layers::repeat::Repeat;
     use std::test::Fail;
+
+    // The search tests have these nodes too: each crate of tests states its own graph, so that it is read alone.
 
     // A node that goes on; targets that are not counted are 0.
     fn going(turn: u8, count: u8, first: u8, second: u8) -> Node {
@@ -51,15 +54,9 @@ mod tests {
         moves.iter().all(|k| game.play(*k).is_ok())
     }
 
-    // What is told of the present line: its length, the moves, and the points where it is over, else 9.
-    fn told<G: Game>(game: &G) -> (u32, u32, u8) {
-        let points = game.score().map_or(9, |s| s.points());
-        (game.played(), game.moves(), points)
-    }
-
-    // The number of the refusal of a play, or 0.
-    fn refusal<G: Game>(game: &mut G, k: u32) -> u8 {
-        game.play(k).err().map_or(0, |e| e.number())
+    // What is told of the present line: its length, the moves, and the score where it is over.
+    fn told<G: Game>(game: &G) -> (u32, u32, Option<Score>) {
+        (game.played(), game.moves(), game.score())
     }
 
     #[test]
@@ -67,10 +64,10 @@ mod tests {
         let mut game = Limit::over(Repeat::over(fork()?, ()), 10);
         assert_eq!(rt; game.height(), 10);
         assert!(rt; walk(&mut game, &[0, 0]));
-        assert_eq!(rt; told(&game), (2, 1, 9));
+        assert_eq!(rt; told(&game), (2, 1, None));
         assert!(rt; walk(&mut game, &[0]));
-        assert_eq!(rt; told(&game), (3, 0, 1));
-        assert_eq!(rt; refusal(&mut game, 0), 2);
+        assert_eq!(rt; told(&game), (3, 0, Some(Score::Draw)));
+        assert_eq!(rt; game.play(0), Err(Refusal::LineOver));
         Ok(())
     }
 
@@ -78,9 +75,9 @@ mod tests {
     fn another_way_to_the_same_node(rt: HostRuntime) -> Result<(), Fail> {
         let mut game = Limit::over(Repeat::over(fork()?, ()), 10);
         assert!(rt; walk(&mut game, &[1, 0, 0]));
-        assert_eq!(rt; told(&game), (3, 2, 9));
+        assert_eq!(rt; told(&game), (3, 2, None));
         assert!(rt; walk(&mut game, &[1]));
-        assert_eq!(rt; told(&game), (4, 0, 2));
+        assert_eq!(rt; told(&game), (4, 0, Some(Score::BlackWins)));
         Ok(())
     }
 
@@ -89,8 +86,8 @@ mod tests {
         let mut game = Repeat::over(Limit::over(fork()?, 2), ());
         assert_eq!(rt; game.height(), 2);
         assert!(rt; walk(&mut game, &[1, 0]));
-        assert_eq!(rt; told(&game), (2, 0, 1));
-        assert_eq!(rt; refusal(&mut game, 0), 2);
+        assert_eq!(rt; told(&game), (2, 0, Some(Score::Draw)));
+        assert_eq!(rt; game.play(0), Err(Refusal::LineOver));
         Ok(())
     }
 
@@ -104,49 +101,58 @@ mod tests {
         assert!(rt; walk(&mut game, &[1]));
         assert_eq!(rt; (game.independent(), game.context()), (false, 2));
         assert!(rt; walk(&mut game, &[0, 0]));
-        assert_eq!(rt; told(&game), (3, 0, 1));
+        assert_eq!(rt; told(&game), (3, 0, Some(Score::Draw)));
         Ok(())
     }
 
     // The height of one node that leads to itself under this limit, and what is told of its empty line.
-    fn limited(limit: u32) -> Result<(u32, u32, u8), PositionRefusal> {
+    fn limited(limit: u32) -> Result<(u32, u32, Option<Score>), PositionRefusal> {
         let game = Limit::over(endless()?, limit);
-        let (_, moves, points) = told(&game);
-        Ok((game.height(), moves, points))
+        let (_, moves, score) = told(&game);
+        Ok((game.height(), moves, score))
     }
 
     #[test]
     fn limits_are_cut_down(rt: HostRuntime) -> Result<(), Fail> {
-        assert_eq!(rt; limited(0)?, (0, 0, 1));
-        assert_eq!(rt; limited(1)?, (1, 1, 9));
-        assert_eq!(rt; limited(96)?, (96, 1, 9));
-        assert_eq!(rt; limited(97)?, (96, 1, 9));
-        assert_eq!(rt; limited(4_294_967_295)?, (96, 1, 9));
+        assert_eq!(rt; limited(0)?, (0, 0, Some(Score::Draw)));
+        assert_eq!(rt; limited(1)?, (1, 1, None));
+        assert_eq!(rt; limited(96)?, (96, 1, None));
+        assert_eq!(rt; limited(97)?, (96, 1, None));
+        assert_eq!(rt; limited(4_294_967_295)?, (96, 1, None));
         Ok(())
     }
 
     #[test]
     fn what_is_over_below_keeps_its_score(rt: HostRuntime) -> Result<(), Fail> {
         let mut game = Limit::over(Graph::new(&[end(0)])?, 0);
-        assert_eq!(rt; told(&game), (0, 0, 0));
-        assert_eq!(rt; refusal(&mut game, 0), 2);
+        assert_eq!(rt; told(&game), (0, 0, Some(Score::WhiteWins)));
+        assert_eq!(rt; game.play(0), Err(Refusal::LineOver));
         Ok(())
     }
 
-    // How many of 200 plays of move 0 are accepted, and the refusal of the next.
-    fn run_on<G: Game>(game: &mut G) -> (u32, u8) {
+    // How many of 200 plays of move 0 are accepted, and what comes of the next.
+    fn run_on<G: Game>(game: &mut G) -> (u32, Result<(), Refusal>) {
         for _ in 0..200 {
             let _ = game.play(0);
         }
-        (game.played(), refusal(game, 0))
+        (game.played(), game.play(0))
     }
 
     #[test]
     fn a_line_of_96_moves(rt: HostRuntime) -> Result<(), Fail> {
-        assert_eq!(rt; run_on(&mut endless()?), (96, 3));
-        assert_eq!(rt; run_on(&mut Limit::over(endless()?, 97)), (96, 2));
-        assert_eq!(rt; run_on(&mut Limit::over(endless()?, 95)), (95, 2));
-        assert_eq!(rt; run_on(&mut Repeat::over(endless()?, ())), (1, 2));
+        assert_eq!(rt; run_on(&mut endless()?), (96, Err(Refusal::LineFull)));
+        assert_eq!(rt;
+            run_on(&mut Limit::over(endless()?, 97)),
+            (96, Err(Refusal::LineOver))
+        );
+        assert_eq!(rt;
+            run_on(&mut Limit::over(endless()?, 95)),
+            (95, Err(Refusal::LineOver))
+        );
+        assert_eq!(rt;
+            run_on(&mut Repeat::over(endless()?, ())),
+            (1, Err(Refusal::LineOver))
+        );
         Ok(())
     }
 
@@ -162,15 +168,18 @@ mod tests {
         Ok(())
     }
 
-    // The number and the place of the refusal of these nodes, or zeros.
-    fn refused(nodes: &[Node]) -> (u8, usize) {
-        Graph::new(nodes)
-            .err()
-            .map_or((0, 0), |e| (e.number(), e.place()))
+    // The refusal of nodes that are not allowed, which shows at this place.
+    fn not_allowed(place: usize) -> Option<PositionRefusal> {
+        Some(PositionRefusal::NotAllowed { place })
+    }
+
+    // The refusal of these nodes.
+    fn refused(nodes: &[Node]) -> Option<PositionRefusal> {
+        Graph::new(nodes).err()
     }
 
     // The same of 64 nodes of which one, at this place, is another.
-    fn refused_with(place: usize, node: Node) -> (u8, usize) {
+    fn refused_with(place: usize, node: Node) -> Option<PositionRefusal> {
         let mut nodes = [going(1, 1, 63, 200); 64];
         if let Some(at) = nodes.get_mut(place) {
             *at = node;
@@ -180,28 +189,28 @@ mod tests {
 
     #[test]
     fn numbers_of_nodes(rt: HostRuntime) {
-        assert_eq!(rt; refused(&[]), (15, 0));
-        assert_eq!(rt; refused(&[going(0, 1, 0, 0); 65]), (15, 64));
-        assert_eq!(rt; refused(&[going(2, 1, 0, 0); 65]), (15, 64));
-        assert_eq!(rt; refused_with(64, end(0)), (0, 0));
+        assert_eq!(rt; refused(&[]), not_allowed(0));
+        assert_eq!(rt; refused(&[going(0, 1, 0, 0); 65]), not_allowed(64));
+        assert_eq!(rt; refused(&[going(2, 1, 0, 0); 65]), not_allowed(64));
+        assert_eq!(rt; refused_with(64, end(0)), None);
     }
 
     #[test]
     fn a_bad_first_node(rt: HostRuntime) {
-        assert_eq!(rt; refused_with(0, going(2, 1, 0, 0)), (15, 0));
-        assert_eq!(rt; refused_with(0, going(0, 0, 0, 0)), (15, 0));
-        assert_eq!(rt; refused_with(0, going(0, 5, 0, 0)), (15, 0));
-        assert_eq!(rt; refused_with(0, going(0, 1, 64, 0)), (15, 0));
-        assert_eq!(rt; refused_with(0, end(3)), (15, 0));
+        assert_eq!(rt; refused_with(0, going(2, 1, 0, 0)), not_allowed(0));
+        assert_eq!(rt; refused_with(0, going(0, 0, 0, 0)), not_allowed(0));
+        assert_eq!(rt; refused_with(0, going(0, 5, 0, 0)), not_allowed(0));
+        assert_eq!(rt; refused_with(0, going(0, 1, 64, 0)), not_allowed(0));
+        assert_eq!(rt; refused_with(0, end(3)), not_allowed(0));
     }
 
     #[test]
     fn a_bad_last_node(rt: HostRuntime) {
-        assert_eq!(rt; refused_with(63, going(2, 1, 0, 0)), (15, 63));
-        assert_eq!(rt; refused_with(63, going(0, 0, 0, 0)), (15, 63));
-        assert_eq!(rt; refused_with(63, going(0, 5, 0, 0)), (15, 63));
-        assert_eq!(rt; refused_with(63, going(0, 2, 63, 64)), (15, 63));
-        assert_eq!(rt; refused_with(63, end(254)), (15, 63));
+        assert_eq!(rt; refused_with(63, going(2, 1, 0, 0)), not_allowed(63));
+        assert_eq!(rt; refused_with(63, going(0, 0, 0, 0)), not_allowed(63));
+        assert_eq!(rt; refused_with(63, going(0, 5, 0, 0)), not_allowed(63));
+        assert_eq!(rt; refused_with(63, going(0, 2, 63, 64)), not_allowed(63));
+        assert_eq!(rt; refused_with(63, end(254)), not_allowed(63));
     }
 
     #[test]
@@ -210,9 +219,9 @@ mod tests {
             score: 2,
             ..going(0, 1, 0, 0)
         };
-        assert_eq!(rt; refused_with(0, node), (15, 0));
-        assert_eq!(rt; refused_with(63, node), (15, 63));
-        assert_eq!(rt; refused_with(63, end(2)), (0, 0));
+        assert_eq!(rt; refused_with(0, node), not_allowed(0));
+        assert_eq!(rt; refused_with(63, node), not_allowed(63));
+        assert_eq!(rt; refused_with(63, end(2)), None);
     }
 
     // Eight limits, the lowest of 1 and the others of 0: at the empty line the context word is 1 shifted by seven bytes.

@@ -28,13 +28,13 @@ pub(crate) struct Question {
     asked: Asked,
 }
 
-// What came of a question: the way to its line was refused, or the call answered. A proof that was written comes in
-// hexadecimal digits.
+// What came of a question: the way to its line was refused, or the call answered. A proof that was written comes with its
+// bytes, which are shown in hexadecimal digits.
 #[derive(Drop)]
 pub(crate) enum Reply {
     NoLine(Refusal),
     Solved(Result<Answer, SolveRefusal>),
-    Written(Result<(Written, String), WriteRefusal>),
+    Written(Result<(Written, Vec<u8>), WriteRefusal>),
     Checked(Result<CheckedProof, Fault>),
 }
 
@@ -45,20 +45,20 @@ fn word(yes: bool) -> &'static str {
 impl fmt::Display for Reply {
     fn fmt<W: fmt::Write>(&self, f: &mut fmt::Formatter<W>) -> fmt::Result {
         match self {
+            // Three refusals are shown alike, but are of three types, so that no one pattern binds them.
             Reply::NoLine(refusal) => write!(f, "refused {}", refusal.number()),
             Reply::Solved(Ok(Answer::Solved { yes, best, count })) => {
                 write!(f, "{} {best} {count}", word(*yes))
             }
             Reply::Solved(Ok(Answer::OutOfBudget { count })) => write!(f, "out-of-budget {count}"),
             Reply::Solved(Err(refusal)) => write!(f, "refused {}", refusal.number()),
-            Reply::Written(Ok((proof, digits))) => {
-                write!(
-                    f,
-                    "{} {} {} {digits}",
-                    word(proof.yes),
-                    proof.length,
-                    proof.plays
-                )
+            Reply::Written(Ok((proof, bytes))) => {
+                let said = word(proof.yes);
+                write!(f, "{said} {} {} ", proof.length, proof.plays)?;
+                for byte in bytes {
+                    write!(f, "{byte:02x}")?;
+                }
+                Ok(())
             }
             Reply::Written(Err(refusal)) => write!(f, "refused {}", refusal.number()),
             Reply::Checked(Ok(proof)) => {
@@ -84,7 +84,8 @@ impl fmt::Display for Reply {
     }
 }
 
-// The moves of a line, with commas between them; a dash for the empty line.
+// The moves of a line, with commas between them; a dash for the empty line. The program of cards reads its moves so too, but
+// from bytes and with an error of its own: a function for both would be handed the reading and the error.
 fn line_of(heap: Global, text: &str) -> Result<Vec<u32>, Trouble> {
     if text == "-" {
         return Ok(Vec::new(heap));
@@ -163,14 +164,11 @@ fn ask_write<G: Bounded, S: Store>(
     size: u32,
 ) -> Result<Reply, AllocError> {
     let mut out = vec![in heap; 0u8; size as usize]?;
-    let written = match write(game, store, floor, budget, memory, &mut out) {
-        Ok(proof) => {
-            out.truncate(proof.length);
-            Ok((proof, hex::encode(heap, out)?))
-        }
-        Err(refusal) => Err(refusal),
-    };
-    Ok(Reply::Written(written))
+    let written = write(game, store, floor, budget, memory, &mut out);
+    Ok(Reply::Written(written.map(|proof| {
+        out.truncate(proof.length);
+        (proof, out)
+    })))
 }
 
 // The answer to a question.

@@ -39,7 +39,8 @@ impl Rules {
     }
 }
 
-// The null store where there is no number of slots.
+// A position, the layers over it, the number of slots of the store, and the questions in their own words. Where no number
+// stands, the store is the null store.
 #[derive(Clone, Copy)]
 pub(crate) struct Case<'a> {
     pub(crate) position: &'a str,
@@ -100,12 +101,7 @@ fn put(node: &mut Node, place: usize, n: u8) {
 }
 
 fn node_of(text: &str) -> Option<Node> {
-    let mut node = Node {
-        turn: 0,
-        score: 0,
-        count: 0,
-        targets: [0; 4],
-    };
+    let mut node = Node::default();
     for (place, digits) in text.split(',').enumerate() {
         put(&mut node, place, number(digits)?);
     }

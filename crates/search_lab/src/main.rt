@@ -12,15 +12,16 @@ mod trouble;
 
 use crate::ask::{answer_to, question_of};
 use crate::case::{Case, Rules, case_of, nodes_of};
+use crate::trouble::Trouble;
 use atari_go::atari::AtariGo;
 use game::interface::{Bounded, Game, Layer};
-use game::refusal::PositionRefusal;
 use graph::graph::Graph;
 use layers::limit::Limit;
 use layers::repeat::Repeat;
 use search::memory::LineRecord;
 use search_method::kinds::Pair;
 use search_method::memory::WorkMemory;
+use std::alloc::Global;
 use std::io;
 use std::io::{BufRead, BufReader};
 use store::entry::Entry;
@@ -91,7 +92,7 @@ fn under_limit<G: Game + Drop, S: Store>(
             let below = Repeat::over(Limit::over(game, n), ());
             ask_all(rt, &mut Limit::over(below, top), store, asked)
         }
-        _ => println!(rt; "no height"),
+        _ => println!(rt; "{}", Trouble::NoHeight),
     }
 }
 
@@ -109,8 +110,9 @@ fn under_rules<G: Bounded + Drop, S: Store>(
     }
 }
 
-fn print_refused(rt: &HostRuntime, refusal: PositionRefusal) -> io::Result<()> {
-    println!(rt; "refused {} {}", refusal.number(), refusal.place())
+fn graph_of(heap: Global, nodes: &str) -> Result<Graph, Trouble> {
+    let nodes = nodes_of(heap, nodes)?;
+    Ok(Graph::new(&nodes)?)
 }
 
 fn on_graph<S: Store>(
@@ -119,20 +121,16 @@ fn on_graph<S: Store>(
     store: &mut S,
     case: Case<'_>,
 ) -> io::Result<()> {
-    let nodes = match nodes_of(rt.alloc(), nodes) {
-        Ok(nodes) => nodes,
-        Err(trouble) => return println!(rt; "{trouble}"),
-    };
-    match Graph::new(&nodes) {
+    match graph_of(rt.alloc(), nodes) {
         Ok(game) => under_limit(rt, game, store, case),
-        Err(refusal) => print_refused(rt, refusal),
+        Err(trouble) => println!(rt; "{trouble}"),
     }
 }
 
 fn on_board<S: Store>(rt: &HostRuntime, store: &mut S, case: Case<'_>) -> io::Result<()> {
     match AtariGo::read(case.position.as_bytes()) {
         Ok(game) => under_rules(rt, game, store, case),
-        Err(refusal) => print_refused(rt, refusal),
+        Err(refusal) => println!(rt; "{}", Trouble::Refused(refusal)),
     }
 }
 
@@ -156,7 +154,7 @@ fn answer(rt: &HostRuntime, text: &str) -> io::Result<()> {
         return Ok(());
     }
     let Some(case) = case_of(position, terms) else {
-        return println!(rt; "malformed");
+        return println!(rt; "{}", Trouble::Malformed);
     };
     let Some(slots) = case.slots else {
         return on_position(rt, &mut Null, case);

@@ -12,13 +12,15 @@ mod tests {
     use layers::repeat::Repeat;
     use search::memory::LineRecord;
     use search::solve::solve;
-    use search_method::kinds::{Answer, Pair};
+    use search_method::kinds::{Answer, Pair, SolveRefusal};
     use search_method::memory::WorkMemory;
     use std::test::Fail;
     use store::entry::{Entry, Key};
     use store::interface::Store;
     use store::null::Null;
     use store::table::Table;
+
+    // The layer tests have these nodes too: each crate of tests states its own graph, so that it is read alone.
 
     // A node that goes on; targets that are not counted are 0.
     fn going(turn: u8, count: u8, first: u8, second: u8) -> Node {
@@ -74,8 +76,23 @@ mod tests {
         }
     }
 
-    // What a search answers with so much work memory, as three numbers: 1 for yes, 0 for no, the move and the count; or
-    // 2 and 0 before the count where the budget did not suffice; or the number of the refusal before two zeros.
+    type Answered = Result<Answer, SolveRefusal>;
+
+    fn yes(best: u8, count: u32) -> Answered {
+        let yes = true;
+        Ok(Answer::Solved { yes, best, count })
+    }
+
+    fn no(best: u8, count: u32) -> Answered {
+        let yes = false;
+        Ok(Answer::Solved { yes, best, count })
+    }
+
+    fn out_of_budget(count: u32) -> Answered {
+        Ok(Answer::OutOfBudget { count })
+    }
+
+    // What a search answers with so much work memory.
     fn answered<S: Store>(
         game: &mut Limit<Repeat<Graph>>,
         store: &mut S,
@@ -83,17 +100,13 @@ mod tests {
         budget: u32,
         lines: usize,
         moves: usize,
-    ) -> (u8, u8, u32) {
+    ) -> Answered {
         let mut records = [stale(3); 97];
-        let mut pairs = [Pair { pn: 9, dn: 0 }; 6208];
+        let mut pairs = [Pair { pn: 9, dn: 0 }; 6_208];
         let lines = &mut records[0..lines.min(97)];
-        let moves = &mut pairs[0..moves.min(6208)];
+        let moves = &mut pairs[0..moves.min(6_208)];
         let mut memory = WorkMemory { lines, moves };
-        match solve(game, store, floor, budget, &mut memory) {
-            Ok(Answer::Solved { yes, best, count }) => (u8::from(yes), best, count),
-            Ok(Answer::OutOfBudget { count }) => (2, 0, count),
-            Err(e) => (e.number(), 0, 0),
-        }
+        solve(game, store, floor, budget, &mut memory)
     }
 
     // The answer at a line of the fork over a store that holds nothing.
@@ -102,33 +115,33 @@ mod tests {
         moves: &[u32],
         floor: u32,
         budget: u32,
-    ) -> Result<(u8, u8, u32), PositionRefusal> {
+    ) -> Result<Answered, PositionRefusal> {
         Ok(answered(
             &mut fork_at(limit, moves)?,
             &mut Null,
             floor,
             budget,
             97,
-            6208,
+            6_208,
         ))
     }
 
     #[test]
     fn without_a_store(rt: HostRuntime) -> Result<(), Fail> {
-        assert_eq!(rt; bare(10, &[], 2, 4_294_967_295)?, (1, 255, 12));
-        assert_eq!(rt; bare(10, &[], 2, 12)?, (1, 255, 12));
-        assert_eq!(rt; bare(10, &[], 2, 11)?, (2, 0, 11));
-        assert_eq!(rt; bare(10, &[], 2, 0)?, (2, 0, 0));
-        assert_eq!(rt; bare(10, &[0, 0], 2, 100)?, (0, 0, 1));
-        assert_eq!(rt; bare(10, &[1, 0], 2, 100)?, (1, 255, 4));
+        assert_eq!(rt; bare(10, &[], 2, 4_294_967_295)?, yes(255, 12));
+        assert_eq!(rt; bare(10, &[], 2, 12)?, yes(255, 12));
+        assert_eq!(rt; bare(10, &[], 2, 11)?, out_of_budget(11));
+        assert_eq!(rt; bare(10, &[], 2, 0)?, out_of_budget(0));
+        assert_eq!(rt; bare(10, &[0, 0], 2, 100)?, no(0, 1));
+        assert_eq!(rt; bare(10, &[1, 0], 2, 100)?, yes(255, 4));
         Ok(())
     }
 
     #[test]
     fn a_line_that_is_over(rt: HostRuntime) -> Result<(), Fail> {
-        assert_eq!(rt; bare(0, &[], 1, 0)?, (1, 255, 0));
-        assert_eq!(rt; bare(0, &[], 2, 0)?, (0, 255, 0));
-        assert_eq!(rt; bare(10, &[0, 1], 2, 0)?, (1, 255, 0));
+        assert_eq!(rt; bare(0, &[], 1, 0)?, yes(255, 0));
+        assert_eq!(rt; bare(0, &[], 2, 0)?, no(255, 0));
+        assert_eq!(rt; bare(10, &[0, 1], 2, 0)?, yes(255, 0));
         Ok(())
     }
 
@@ -136,25 +149,37 @@ mod tests {
     #[test]
     fn refusals(rt: HostRuntime) -> Result<(), Fail> {
         let mut game = fork_at(10, &[1, 0])?;
-        assert_eq!(rt; answered(&mut game, &mut Null, 0, 100, 97, 6208), (5, 0, 0));
-        assert_eq!(rt; answered(&mut game, &mut Null, 3, 100, 96, 6208), (5, 0, 0));
         assert_eq!(rt;
-            answered(&mut game, &mut Null, 258, 100, 97, 6208),
-            (5, 0, 0)
+            answered(&mut game, &mut Null, 0, 100, 97, 6_208),
+            Err(SolveRefusal::Floor)
         );
-        assert_eq!(rt; answered(&mut game, &mut Null, 2, 100, 96, 6208), (6, 0, 0));
-        assert_eq!(rt; answered(&mut game, &mut Null, 1, 100, 97, 6207), (6, 0, 0));
+        assert_eq!(rt;
+            answered(&mut game, &mut Null, 3, 100, 96, 6_208),
+            Err(SolveRefusal::Floor)
+        );
+        assert_eq!(rt;
+            answered(&mut game, &mut Null, 258, 100, 97, 6_208),
+            Err(SolveRefusal::Floor)
+        );
+        assert_eq!(rt;
+            answered(&mut game, &mut Null, 2, 100, 96, 6_208),
+            Err(SolveRefusal::Memory)
+        );
+        assert_eq!(rt;
+            answered(&mut game, &mut Null, 1, 100, 97, 6_207),
+            Err(SolveRefusal::Memory)
+        );
         assert_eq!(rt; game.played(), 2);
         assert_eq!(rt;
-            answered(&mut game, &mut Null, 2, 100, 97, 6208),
-            (1, 255, 4)
+            answered(&mut game, &mut Null, 2, 100, 97, 6_208),
+            yes(255, 4)
         );
         assert_eq!(rt; game.played(), 2);
         Ok(())
     }
 
     // Seven searches, one after another, over a table of these slots.
-    fn seven(slots: &mut [Option<Entry>]) -> Result<[(u8, u8, u32); 7], PositionRefusal> {
+    fn seven(slots: &mut [Option<Entry>]) -> Result<[Answered; 7], PositionRefusal> {
         let mut table = Table::new(slots);
         let asked: [(&[u32], u32, u32); 7] = [
             (&[], 2, 1000),
@@ -165,10 +190,10 @@ mod tests {
             (&[], 1, 5),
             (&[], 1, 1000),
         ];
-        let mut answers = [(0, 0, 0); 7];
+        let mut answers = [out_of_budget(0); 7];
         for (answer, (moves, floor, budget)) in answers.iter_mut().zip(asked) {
             let mut game = fork_at(10, moves)?;
-            *answer = answered(&mut game, &mut table, floor, budget, 97, 6208);
+            *answer = answered(&mut game, &mut table, floor, budget, 97, 6_208);
         }
         Ok(answers)
     }
@@ -176,23 +201,23 @@ mod tests {
     #[test]
     fn over_a_table_of_seven_slots(rt: HostRuntime) -> Result<(), Fail> {
         let answers = seven(&mut [None; 7])?;
-        assert_eq!(rt; answers[0], (1, 255, 10));
-        assert_eq!(rt; answers[1], (1, 255, 6));
-        assert_eq!(rt; answers[2], (0, 0, 1));
-        assert_eq!(rt; answers[3], (1, 255, 2));
-        assert_eq!(rt; answers[4], (1, 255, 10));
-        assert_eq!(rt; answers[5], (2, 0, 5));
-        assert_eq!(rt; answers[6], (1, 255, 12));
+        assert_eq!(rt; answers[0], yes(255, 10));
+        assert_eq!(rt; answers[1], yes(255, 6));
+        assert_eq!(rt; answers[2], no(0, 1));
+        assert_eq!(rt; answers[3], yes(255, 2));
+        assert_eq!(rt; answers[4], yes(255, 10));
+        assert_eq!(rt; answers[5], out_of_budget(5));
+        assert_eq!(rt; answers[6], yes(255, 12));
         Ok(())
     }
 
     #[test]
     fn over_a_table_of_three_slots(rt: HostRuntime) -> Result<(), Fail> {
         let answers = seven(&mut [None; 3])?;
-        assert_eq!(rt; answers[0], (1, 255, 10));
-        assert_eq!(rt; answers[1], (1, 255, 12));
-        assert_eq!(rt; answers[3], (1, 255, 4));
-        assert_eq!(rt; answers[6], (1, 255, 10));
+        assert_eq!(rt; answers[0], yes(255, 10));
+        assert_eq!(rt; answers[1], yes(255, 12));
+        assert_eq!(rt; answers[3], yes(255, 4));
+        assert_eq!(rt; answers[6], yes(255, 10));
         Ok(())
     }
 }

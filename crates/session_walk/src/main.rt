@@ -199,7 +199,7 @@ fn two_sessions<G: Bounded + Drop, F: Fn() -> Result<G, Failure>>(
     requires { F.IsAlwaysCallable make }
 {
     let mut lines = vec![in heap; LineRecord::default(); 97]?;
-    let mut moves = vec![in heap; Pair::default(); 6208]?;
+    let mut moves = vec![in heap; Pair::default(); 6_208]?;
     let mut slots: Vec<Option<Entry>> = vec![in heap; None; dice.below(9) as usize]?;
     let mut others: Vec<Option<Entry>> = vec![in heap; None; dice.below(400) as usize]?;
     let mut bytes: Vec<u8> = vec![in heap; 0; dice.below(60) as usize]?;
@@ -207,21 +207,21 @@ fn two_sessions<G: Bounded + Drop, F: Fn() -> Result<G, Failure>>(
     let mut more = random_list(heap, dice)?;
     let (one, two) = in_two_sessions(
         make()?,
-        Table::new(slots.as_mut_slice()),
-        list.as_mut_slice(),
+        Table::new(&mut slots),
+        &mut list,
         make()?,
-        Table::new(others.as_mut_slice()),
-        more.as_mut_slice(),
-        bytes.as_mut_slice(),
+        Table::new(&mut others),
+        &mut more,
+        &mut bytes,
         &mut WorkMemory {
-            lines: lines.as_mut_slice(),
-            moves: moves.as_mut_slice(),
+            lines: &mut lines,
+            moves: &mut moves,
         },
     );
     let (_, _) = one.close();
     let (_, _) = two.close();
-    tally.follow_all(make()?, list.as_slice());
-    tally.follow_all(make()?, more.as_slice());
+    tally.follow_all(make()?, &list);
+    tally.follow_all(make()?, &more);
     Ok(())
 }
 
@@ -242,7 +242,7 @@ fn one_case(heap: Global, dice: &mut Dice, tally: &mut Tally) -> Result<(), Fail
 // The number of cases that the first argument asks for.
 fn cases_asked(rt: &HostRuntime) -> anyhow::Result<u32> {
     match env::args(rt)?.nth(1) {
-        Some(word) => Ok(word.as_str().parse::<u32>()?),
+        Some(word) => Ok(word.parse::<u32>()?),
         None => Ok(20),
     }
 }
