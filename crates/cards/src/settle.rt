@@ -12,7 +12,7 @@ use proof_file::check::CheckedProof;
 use proof_writer::refusal::WriteRefusal;
 use search::memory::LineRecord;
 use search_method::kinds::{Answer, Pair, SolveRefusal};
-use search_method::memory::WorkMemory;
+use search_method::memory::{LINES, MOVES, WorkMemory};
 use session::request::{Exchange, Reply, Request};
 use session::run::in_two_sessions;
 use std::alloc::{AllocError, Global};
@@ -80,13 +80,13 @@ fn told_by(exchanges: Vec<Exchange>) -> Result<Told, CardRefusal> {
     let mut accepted = None;
     for exchange in exchanges {
         match exchange.reply {
-            Some(Reply::Moved(moved)) => moved?,
+            Some(Reply::Done(done)) => done?,
             Some(Reply::Solved(answer)) => solved = Some(solved_by(answer?)?),
             Some(Reply::Written(written)) => {
                 written?;
             }
             Some(Reply::Checked(proof)) => accepted = Some(proof?),
-            Some(Reply::Cleared) | None => {}
+            None => {}
         }
     }
     let accepted = accepted.ok_or(CardRefusal::Solve(SolveRefusal::Memory))?;
@@ -106,8 +106,8 @@ fn attempt<G: Bounded + Drop, F: Fn() -> Result<G, CardRefusal>>(
     // Each function that calls a closure of its caller asks that it may be called, here and below.
     requires { F.IsAlwaysCallable make.now }
 {
-    let mut lines = vec![in heap; LineRecord::default(); 97]?;
-    let mut moves = vec![in heap; Pair::default(); 6_208]?;
+    let mut lines = vec![in heap; LineRecord::default(); LINES]?;
+    let mut moves = vec![in heap; Pair::default(); MOVES]?;
     let mut slots: Vec<Option<Entry>> = vec![in heap; None; card.slots() as usize]?;
     let mut tablet: Vec<Option<Entry>> = vec![in heap; None; card.tablet() as usize]?;
     let mut first = exchanges(heap, card, work, check)?;
@@ -156,7 +156,7 @@ fn attempt_fresh<G: Bounded + Drop, F: Fn() -> Result<G, CardRefusal>>(
             told => return Ok((told?, buffer)),
         }
     }
-    Err(NoLine::NoMemory(AllocError))
+    Err(NoLine::Refused(CardRefusal::Write(WriteRefusal::NoRoom)))
 }
 
 // The side length of the board, by the text of a position in form. The layers over the game do not tell it.

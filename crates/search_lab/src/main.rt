@@ -20,7 +20,7 @@ use layers::limit::Limit;
 use layers::repeat::Repeat;
 use search::memory::LineRecord;
 use search_method::kinds::Pair;
-use search_method::memory::WorkMemory;
+use search_method::memory::{LINES, MOVES, WorkMemory};
 use std::alloc::Global;
 use std::io;
 use std::io::{BufRead, BufReader};
@@ -36,8 +36,8 @@ fn ask_all<G: Bounded, S: Store>(
     store: &mut S,
     questions: &[&str],
 ) -> io::Result<()> {
-    let mut lines = vec![in rt.alloc(); LineRecord::default(); 97]?;
-    let mut moves = vec![in rt.alloc(); Pair::default(); 6_208]?;
+    let mut lines = vec![in rt.alloc(); LineRecord::default(); LINES]?;
+    let mut moves = vec![in rt.alloc(); Pair::default(); MOVES]?;
     let mut memory = WorkMemory {
         lines: &mut lines,
         moves: &mut moves,

@@ -11,7 +11,7 @@ use layers::limit::Limit;
 use layers::repeat::Repeat;
 use search::memory::LineRecord;
 use search_method::kinds::{Answer, Pair};
-use search_method::memory::WorkMemory;
+use search_method::memory::{LINES, MOVES, WorkMemory};
 use session::request::{Exchange, Reply, Request};
 use session::run::in_two_sessions;
 use std::alloc::{AllocError, Global};
@@ -159,10 +159,10 @@ impl Tally {
         };
         self.calls = self.calls.saturating_add(1);
         match (exchange.request, reply) {
-            (Request::Play { k }, Reply::Moved(Ok(()))) => {
+            (Request::Play { k }, Reply::Done(Ok(()))) => {
                 let _ = game.play(k);
             }
-            (Request::TakeBack, Reply::Moved(Ok(()))) => {
+            (Request::TakeBack, Reply::Done(Ok(()))) => {
                 let _ = game.take_back();
             }
             (Request::Solve { floor, .. }, Reply::Solved(Ok(Answer::Solved { yes, .. }))) => {
@@ -198,8 +198,8 @@ fn two_sessions<G: Bounded + Drop, F: Fn() -> Result<G, Failure>>(
 ) -> Result<(), Failure>
     requires { F.IsAlwaysCallable make }
 {
-    let mut lines = vec![in heap; LineRecord::default(); 97]?;
-    let mut moves = vec![in heap; Pair::default(); 6_208]?;
+    let mut lines = vec![in heap; LineRecord::default(); LINES]?;
+    let mut moves = vec![in heap; Pair::default(); MOVES]?;
     let mut slots: Vec<Option<Entry>> = vec![in heap; None; dice.below(9) as usize]?;
     let mut others: Vec<Option<Entry>> = vec![in heap; None; dice.below(400) as usize]?;
     let mut bytes: Vec<u8> = vec![in heap; 0; dice.below(60) as usize]?;
