@@ -18,6 +18,7 @@ use graph_rules::node::Node;
 use history::history::History;
 
 // A game on a graph: its nodes, and those that the present line has led through.
+// The nodes stay as they were handed in: what the game means is told of that row, and sides and scores would be its numbers again.
 #[derive(Drop)]
 pub struct Graph {
     nodes: ArrayVec<Node, 64>,

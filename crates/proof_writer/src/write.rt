@@ -25,7 +25,8 @@ pub struct Written {
     pub plays: u32,
 }
 
-// Puts the file of what the search answered; where that fails the buffer may hold a part of it.
+// Puts the file of what the search answered; where that fails the buffer may hold a part of it. The floor is a number, as a bound on
+// points; that it is 1 or 2, and that memory suffices, are ghost fields of the `Writer` that is made here.
 fn put_answer<G: Bounded, S: Store>(
     game: &mut G,
     store: &mut S,
