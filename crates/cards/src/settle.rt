@@ -106,6 +106,7 @@ fn attempt<G: Bounded + Drop, F: Fn() -> Result<G, CardRefusal>>(
     // Each function that calls a closure of its caller asks that it may be called, here and below.
     requires { F.IsAlwaysCallable make.now }
 {
+    // Work memory is made where it is lent: a type that keeps both rows and lends them would be longer than these lines.
     let mut lines = vec![in heap; LineRecord::default(); LINES]?;
     let mut moves = vec![in heap; Pair::default(); MOVES]?;
     let mut slots: Vec<Option<Entry>> = vec![in heap; None; card.slots() as usize]?;

@@ -38,6 +38,7 @@ pub(crate) enum Reply {
     Checked(Result<CheckedProof, Fault>),
 }
 
+// The verdict in a word. `cards` and the card line print it too, each in a line of its own: a shared function would be no shorter.
 fn word(yes: bool) -> &'static str {
     if yes { "yes" } else { "no" }
 }

@@ -36,6 +36,7 @@ fn ask_all<G: Bounded, S: Store>(
     store: &mut S,
     questions: &[&str],
 ) -> io::Result<()> {
+    // Work memory is made where it is lent: a type that keeps both rows and lends them would be longer than these lines.
     let mut lines = vec![in rt.alloc(); LineRecord::default(); LINES]?;
     let mut moves = vec![in rt.alloc(); Pair::default(); MOVES]?;
     let mut memory = WorkMemory {

@@ -198,6 +198,7 @@ fn two_sessions<G: Bounded + Drop, F: Fn() -> Result<G, Failure>>(
 ) -> Result<(), Failure>
     requires { F.IsAlwaysCallable make }
 {
+    // Work memory is made where it is lent: a type that keeps both rows and lends them would be longer than these lines.
     let mut lines = vec![in heap; LineRecord::default(); LINES]?;
     let mut moves = vec![in heap; Pair::default(); MOVES]?;
     let mut slots: Vec<Option<Entry>> = vec![in heap; None; dice.below(9) as usize]?;
