@@ -1,8 +1,35 @@
 // A case: the position, the layers over it, the store, and the questions in their own words.
+ghost use Rattle.std.specs.Prelude.{◌≡◌, length};
+ghost use Rattle.std.specs.Iterator.{at_most};
+
 use crate::trouble::Trouble;
 use graph_rules::node::Node;
 use std::alloc::Global;
+use std::iter::Peekable;
 use texts::number;
+
+// The fields of a line, which blanks part. Each is found as it is asked for.
+#[derive(Drop)]
+pub(crate) struct Fields<'a> {
+    pub(crate) rest: &'a str,
+}
+
+impl<'a> Iterator for Fields<'a> {
+    type Item = &'a str;
+
+    ghost remaining = { λ s. at_most (length s.rest.now) };
+
+    // `split` with a filter would pass over a row of blanks by a search for each.
+    fn next(&mut self) -> Option<&'a str> {
+        let rest = self.rest.trim_start_matches(' ');
+        if rest.is_empty() {
+            return None;
+        }
+        let (field, more) = rest.split_once(' ').unwrap_or((rest, ""));
+        self.rest = more;
+        Some(field)
+    }
+}
 
 // The rule layers, each laid over those before it. Each stack of layers is a game of a type of its own, so that the stacks
 // that can be asked for are counted out.
@@ -41,17 +68,19 @@ impl Rules {
 
 // A position, the layers over it, the number of slots of the store, and the questions in their own words. Where no number
 // stands, the store is the null store.
-#[derive(Clone, Copy)]
+#[derive(Drop)]
 pub(crate) struct Case<'a> {
     pub(crate) position: &'a str,
     pub(crate) rules: Rules,
     pub(crate) slots: Option<u32>,
-    pub(crate) questions: &'a [&'a str],
+    pub(crate) questions: Peekable<Fields<'a>>,
 }
 
 impl Case<'_> {
-    // Takes in a field that stands before the questions.
-    fn take_field(&mut self, field: &str) -> Option<()> {
+    // Takes in a field that stands before the questions, and leaves the questions as they are.
+    fn take_field(&mut self, field: &str) -> Option<()>
+        ensures { self.new.questions ≡ self.old.questions }
+    {
         if field == "repeat" {
             self.rules = self.rules.with_repeat()?;
         } else if let Some(digits) = field.strip_prefix("limit=") {
@@ -67,21 +96,16 @@ fn is_question(field: &str) -> bool {
     field.starts_with("solve=") || field.starts_with("write=") || field.starts_with("check=")
 }
 
-// The case of a position and the fields after it.
-pub(crate) fn case_of<'a>(position: &'a str, fields: &'a [&'a str]) -> Option<Case<'a>> {
-    let first = fields
-        .iter()
-        .position(|field| is_question(field))
-        .unwrap_or(fields.len());
-    let (terms, questions) = fields.split_at(first);
+// The case of a position and the fields after it, which are taken up to the first question.
+pub(crate) fn case_of<'a>(position: &'a str, fields: Fields<'a>) -> Option<Case<'a>> {
     let mut case = Case {
         position,
         rules: Rules::Plain,
         slots: None,
-        questions,
+        questions: fields.peekable(),
     };
-    for term in terms {
-        case.take_field(term)?;
+    while let Some(field) = case.questions.next_if(|field| !is_question(field)) {
+        case.take_field(field)?;
     }
     Some(case)
 }

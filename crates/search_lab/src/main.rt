@@ -11,7 +11,7 @@ mod case;
 mod trouble;
 
 use crate::ask::{answer_to, question_of};
-use crate::case::{Case, Rules, case_of, nodes_of};
+use crate::case::{Case, Fields, Rules, case_of, nodes_of};
 use crate::trouble::Trouble;
 use atari_go::atari::AtariGo;
 use game::interface::{Bounded, Game, Layer};
@@ -24,6 +24,7 @@ use search_method::memory::{LINES, MOVES, WorkMemory};
 use std::alloc::Global;
 use std::io;
 use std::io::{BufRead, BufReader};
+use std::iter::Peekable;
 use store::entry::Entry;
 use store::interface::Store;
 use store::null::Null;
@@ -34,7 +35,7 @@ fn ask_all<G: Bounded, S: Store>(
     rt: &HostRuntime,
     game: &mut G,
     store: &mut S,
-    questions: &[&str],
+    questions: Peekable<Fields<'_>>,
 ) -> io::Result<()> {
     // Work memory is made where it is lent: a type that keeps both rows and lends them would be longer than these lines.
     let mut lines = vec![in rt.alloc(); LineRecord::default(); LINES]?;
@@ -142,19 +143,16 @@ fn on_position<S: Store>(rt: &HostRuntime, store: &mut S, case: Case<'_>) -> io:
     }
 }
 
-// Answers a line, unless it is blank or a comment.
+// Answers a line, unless it is blank or a comment. No field is looked at before it is needed.
 fn answer(rt: &HostRuntime, text: &str) -> io::Result<()> {
-    let fields: Vec<&str> = text
-        .split(' ')
-        .filter(|field| !field.is_empty())
-        .collect(rt.alloc())?;
-    let Some((position, terms)) = fields.split_first() else {
+    let mut fields = Fields { rest: text };
+    let Some(position) = fields.next() else {
         return Ok(());
     };
     if position.starts_with('#') {
         return Ok(());
     }
-    let Some(case) = case_of(position, terms) else {
+    let Some(case) = case_of(position, fields) else {
         return println!(rt; "{}", Trouble::Malformed);
     };
     let Some(slots) = case.slots else {
