@@ -21,7 +21,6 @@ use layers::repeat::Repeat;
 use search::memory::LineRecord;
 use search_method::kinds::Pair;
 use search_method::memory::{LINES, MOVES, WorkMemory};
-use std::alloc::Global;
 use std::io;
 use std::io::{BufRead, BufReader};
 use std::iter::Peekable;
@@ -112,23 +111,25 @@ fn under_rules<G: Bounded + Drop, S: Store>(
     }
 }
 
-fn graph_of(heap: Global, nodes: &str) -> Result<Graph, Trouble> {
-    let nodes = nodes_of(heap, nodes)?;
-    Ok(Graph::new(&nodes)?)
-}
-
+// Asks on a graph. The graph is handed on from where it is made: an answer around it, with the error of this program, would be
+// one more copy of its nodes.
 fn on_graph<S: Store>(
     rt: &HostRuntime,
     nodes: &str,
     store: &mut S,
     case: Case<'_>,
 ) -> io::Result<()> {
-    match graph_of(rt.alloc(), nodes) {
+    let nodes = match nodes_of(rt.alloc(), nodes) {
+        Ok(nodes) => nodes,
+        Err(trouble) => return println!(rt; "{trouble}"),
+    };
+    match Graph::new(&nodes) {
         Ok(game) => under_limit(rt, game, store, case),
-        Err(trouble) => println!(rt; "{trouble}"),
+        Err(refusal) => println!(rt; "{}", Trouble::Refused(refusal)),
     }
 }
 
+// Asks on a board.
 fn on_board<S: Store>(rt: &HostRuntime, store: &mut S, case: Case<'_>) -> io::Result<()> {
     match AtariGo::read(case.position.as_bytes()) {
         Ok(game) => under_rules(rt, game, store, case),
@@ -136,6 +137,7 @@ fn on_board<S: Store>(rt: &HostRuntime, store: &mut S, case: Case<'_>) -> io::Re
     }
 }
 
+// Asks on the position of a case: a graph where it says so, else a board.
 fn on_position<S: Store>(rt: &HostRuntime, store: &mut S, case: Case<'_>) -> io::Result<()> {
     match case.position.strip_prefix("graph:") {
         Some(nodes) => on_graph(rt, nodes, store, case),
