@@ -29,12 +29,12 @@ pub(crate) struct Question {
 }
 
 // What came of a question: the way to its line was refused, or the call answered. A proof that was written comes with its
-// bytes, which are shown in hexadecimal digits.
+// hexadecimal digits, which are made at once: a format for each byte would take several times as long.
 #[derive(Drop)]
 pub(crate) enum Reply {
     NoLine(Refusal),
     Solved(Result<Answer, SolveRefusal>),
-    Written(Result<(Written, Vec<u8>), WriteRefusal>),
+    Written(Result<(Written, String), WriteRefusal>),
     Checked(Result<CheckedProof, Fault>),
 }
 
@@ -53,13 +53,9 @@ impl fmt::Display for Reply {
             }
             Reply::Solved(Ok(Answer::OutOfBudget { count })) => write!(f, "out-of-budget {count}"),
             Reply::Solved(Err(refusal)) => write!(f, "refused {}", refusal.number()),
-            Reply::Written(Ok((proof, bytes))) => {
+            Reply::Written(Ok((proof, digits))) => {
                 let said = word(proof.yes);
-                write!(f, "{said} {} {} ", proof.length, proof.plays)?;
-                for byte in bytes {
-                    write!(f, "{byte:02x}")?;
-                }
-                Ok(())
+                write!(f, "{said} {} {} {digits}", proof.length, proof.plays)
             }
             Reply::Written(Err(refusal)) => write!(f, "refused {}", refusal.number()),
             Reply::Checked(Ok(proof)) => {
@@ -155,6 +151,7 @@ fn go_to<G: Game>(game: &mut G, line: &[u32]) -> Result<(), Refusal> {
     Ok(())
 }
 
+// Writes a proof into a row of the size that is asked for.
 fn ask_write<G: Bounded, S: Store>(
     heap: Global,
     game: &mut G,
@@ -165,11 +162,13 @@ fn ask_write<G: Bounded, S: Store>(
     size: u32,
 ) -> Result<Reply, AllocError> {
     let mut out = vec![in heap; 0u8; size as usize]?;
-    let written = write(game, store, floor, budget, memory, &mut out);
-    Ok(Reply::Written(written.map(|proof| {
-        out.truncate(proof.length);
-        (proof, out)
-    })))
+    match write(game, store, floor, budget, memory, &mut out) {
+        Ok(proof) => {
+            out.truncate(proof.length);
+            Ok(Reply::Written(Ok((proof, hex::encode(heap, &out)?))))
+        }
+        Err(refusal) => Ok(Reply::Written(Err(refusal))),
+    }
 }
 
 // The answer to a question.
