@@ -96,10 +96,11 @@ fn is_question(field: &str) -> bool {
     field.starts_with("solve=") || field.starts_with("write=") || field.starts_with("check=")
 }
 
-// The case of a position and the fields after it, which are taken up to the first question.
-pub(crate) fn case_of<'a>(position: &'a str, fields: Fields<'a>) -> Option<Case<'a>> {
+// The case of a line, whose fields are taken up to the first question.
+pub(crate) fn case_of(text: &str) -> Option<Case<'_>> {
+    let mut fields = Fields { rest: text };
     let mut case = Case {
-        position,
+        position: fields.next()?,
         rules: Rules::Plain,
         slots: None,
         questions: fields.peekable(),

@@ -145,16 +145,9 @@ fn on_position<S: Store>(rt: &HostRuntime, store: &mut S, case: Case<'_>) -> io:
     }
 }
 
-// Answers a line, unless it is blank or a comment. No field is looked at before it is needed.
+// Answers a case.
 fn answer(rt: &HostRuntime, text: &str) -> io::Result<()> {
-    let mut fields = Fields { rest: text };
-    let Some(position) = fields.next() else {
-        return Ok(());
-    };
-    if position.starts_with('#') {
-        return Ok(());
-    }
-    let Some(case) = case_of(position, fields) else {
+    let Some(case) = case_of(text) else {
         return println!(rt; "{}", Trouble::Malformed);
     };
     let Some(slots) = case.slots else {
@@ -164,9 +157,18 @@ fn answer(rt: &HostRuntime, text: &str) -> io::Result<()> {
     on_position(rt, &mut Table::new(&mut row), case)
 }
 
+// Neither blank nor a comment.
+fn is_case(text: &str) -> bool {
+    let text = text.trim_start_matches(' ');
+    !text.is_empty() && !text.starts_with('#')
+}
+
 fn main(rt: HostRuntime) -> io::Result<()> {
     for line in BufReader::new(rt.alloc(), rt.stdin())?.lines(rt.alloc()) {
-        answer(&rt, &line?)?;
+        let text = line?;
+        if is_case(&text) {
+            answer(&rt, &text)?;
+        }
     }
     Ok(())
 }
