@@ -112,7 +112,9 @@ fn under_rules<G: Bounded + Drop, S: Store>(
 }
 
 // Asks on a graph. The graph is handed on from where it is made: an answer around it, with the error of this program, would be
-// one more copy of its nodes.
+// one more copy of its nodes. It is kept out of line, as is the next: in the frame of `answer` every kind of game would take stack
+// for every case.
+#[inline(never)]
 fn on_graph<S: Store>(
     rt: &HostRuntime,
     nodes: &str,
@@ -130,6 +132,7 @@ fn on_graph<S: Store>(
 }
 
 // Asks on a board.
+#[inline(never)]
 fn on_board<S: Store>(rt: &HostRuntime, store: &mut S, case: Case<'_>) -> io::Result<()> {
     match AtariGo::read(case.position.as_bytes()) {
         Ok(game) => under_rules(rt, game, store, case),
