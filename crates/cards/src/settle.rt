@@ -13,7 +13,7 @@ use proof_writer::refusal::WriteRefusal;
 use search::memory::LineRecord;
 use search_method::kinds::{Answer, Pair, SolveRefusal};
 use search_method::memory::{LINES, MOVES, WorkMemory};
-use session::request::{Exchange, Reply, Request};
+use session::request::{Reply, Request};
 use session::run::in_two_sessions;
 use std::alloc::{AllocError, Global};
 use std::iter;
@@ -47,23 +47,22 @@ struct Told {
     accepted: CheckedProof,
 }
 
-// The plays of the card's line, then some calls, and a check at the end.
-fn exchanges(
+// The plays of the card's line, then some calls, and a check at the end; and room for their replies.
+fn requests(
     heap: Global,
     card: &Card,
     calls: &[Request],
     check: Request,
-) -> Result<Vec<Exchange>, AllocError> {
-    card.line()
+) -> Result<(Vec<Request>, Vec<Option<Reply>>), AllocError> {
+    let requests: Vec<Request> = card
+        .line()
         .iter()
         .map(|k| Request::Play { k: *k })
         .chain(calls.iter().copied())
         .chain(iter::once(check))
-        .map(|request| Exchange {
-            request,
-            reply: None,
-        })
-        .collect(heap)
+        .collect(heap)?;
+    let replies = (0..requests.len()).map(|_| None).collect(heap)?;
+    Ok((requests, replies))
 }
 
 fn solved_by(answer: Answer) -> Result<Solved, CardRefusal> {
@@ -75,11 +74,11 @@ fn solved_by(answer: Answer) -> Result<Solved, CardRefusal> {
 
 // What a list of calls comes to: refused by the first call that was, or a proof that was accepted. Each list ends in a
 // check, so that there always is one.
-fn told_by(exchanges: Vec<Exchange>) -> Result<Told, CardRefusal> {
+fn told_by(replies: Vec<Option<Reply>>) -> Result<Told, CardRefusal> {
     let mut solved = None;
     let mut accepted = None;
-    for exchange in exchanges {
-        match exchange.reply {
+    for reply in replies {
+        match reply {
             Some(Reply::Done(done)) => done?,
             Some(Reply::Solved(answer)) => solved = Some(solved_by(answer?)?),
             Some(Reply::Written(written)) => {
@@ -111,15 +110,17 @@ fn attempt<G: Bounded + Drop, F: Fn() -> Result<G, CardRefusal>>(
     let mut moves = vec![in heap; Pair::default(); MOVES]?;
     let mut slots: Vec<Option<Entry>> = vec![in heap; None; card.slots() as usize]?;
     let mut tablet: Vec<Option<Entry>> = vec![in heap; None; card.tablet() as usize]?;
-    let mut first = exchanges(heap, card, work, check)?;
-    let mut second = exchanges(heap, card, &[], check)?;
+    let (first, mut replies) = requests(heap, card, work, check)?;
+    let (second, mut answers) = requests(heap, card, &[], check)?;
     let (one, two) = in_two_sessions(
         make()?,
         Table::new(&mut slots),
-        &mut first,
+        &first,
+        &mut replies,
         make()?,
         Table::new(&mut tablet),
-        &mut second,
+        &second,
+        &mut answers,
         buffer,
         &mut WorkMemory {
             lines: &mut lines,
@@ -128,8 +129,8 @@ fn attempt<G: Bounded + Drop, F: Fn() -> Result<G, CardRefusal>>(
     );
     let (_, _) = one.close();
     let (_, _) = two.close();
-    let told = told_by(first)?;
-    told_by(second)?;
+    let told = told_by(replies)?;
+    told_by(answers)?;
     Ok(told)
 }
 

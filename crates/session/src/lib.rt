@@ -2,10 +2,9 @@
 //
 // `session::Session` owns both. `open` clears the store and leaves the game at its line, `close` hands both back, and
 // `play`, `take_back`, `clear`, `solve`, `write` and `check` are the calls between, each equal to what the part that it
-// is about promises. `request::Request` and `request::Reply` are these calls and their answers as plain values, a
-// `request::Exchange` is one of each, and `run::in_two_sessions` opens two sessions and makes a list of requests in each.
-// Its contract says of each that this was the life of a session, as the crate `life` defines it, and it has the whole
-// promise of any two such lives.
+// is about promises. `request::Request` and `request::Reply` are these calls and their answers as plain values, and
+// `run::in_two_sessions` opens two sessions and makes a list of requests in each. Its contract says of each that this
+// was the life of a session, as the crate `life` defines it, and it has the whole promise of any two such lives.
 #![tactic(auto)]
 
 mod living;

@@ -12,7 +12,7 @@ use layers::repeat::Repeat;
 use search::memory::LineRecord;
 use search_method::kinds::{Answer, Pair};
 use search_method::memory::{LINES, MOVES, WorkMemory};
-use session::request::{Exchange, Reply, Request};
+use session::request::{Reply, Request};
 use session::run::in_two_sessions;
 use std::alloc::{AllocError, Global};
 use std::env;
@@ -124,14 +124,14 @@ fn random_request(dice: &mut Dice) -> Request {
     }
 }
 
-// Requests that wait for their replies.
-fn random_list(heap: Global, dice: &mut Dice) -> Result<Vec<Exchange>, AllocError> {
-    (0..40)
-        .map(|_| Exchange {
-            request: random_request(dice),
-            reply: None,
-        })
-        .collect(heap)
+// Requests, and room for their replies.
+fn random_list(
+    heap: Global,
+    dice: &mut Dice,
+) -> Result<(Vec<Request>, Vec<Option<Reply>>), AllocError> {
+    let requests = (0..40).map(|_| random_request(dice)).collect(heap)?;
+    let replies = (0..40).map(|_| None).collect(heap)?;
+    Ok((requests, replies))
 }
 
 // What was done and found.
@@ -153,12 +153,9 @@ impl Tally {
     }
 
     // One call as it was answered: the game goes where the session went, and verdicts are judged there.
-    fn follow<G: Game>(&mut self, game: &mut G, exchange: &Exchange) {
-        let Some(reply) = &exchange.reply else {
-            return;
-        };
+    fn follow<G: Game>(&mut self, game: &mut G, request: Request, reply: &Reply) {
         self.calls = self.calls.saturating_add(1);
-        match (exchange.request, reply) {
+        match (request, reply) {
             (Request::Play { k }, Reply::Done(Ok(()))) => {
                 let _ = game.play(k);
             }
@@ -181,9 +178,17 @@ impl Tally {
         }
     }
 
-    fn follow_all<G: Game + Drop>(&mut self, mut game: G, exchanges: &[Exchange]) {
-        for exchange in exchanges {
-            self.follow(&mut game, exchange);
+    // The calls that were made, one after another.
+    fn follow_all<G: Game + Drop>(
+        &mut self,
+        mut game: G,
+        requests: &[Request],
+        replies: &[Option<Reply>],
+    ) {
+        for (request, reply) in requests.iter().zip(replies) {
+            if let Some(reply) = reply {
+                self.follow(&mut game, *request, reply);
+            }
         }
     }
 }
@@ -204,15 +209,17 @@ fn two_sessions<G: Bounded + Drop, F: Fn() -> Result<G, Failure>>(
     let mut slots: Vec<Option<Entry>> = vec![in heap; None; dice.below(9) as usize]?;
     let mut others: Vec<Option<Entry>> = vec![in heap; None; dice.below(400) as usize]?;
     let mut bytes: Vec<u8> = vec![in heap; 0; dice.below(60) as usize]?;
-    let mut list = random_list(heap, dice)?;
-    let mut more = random_list(heap, dice)?;
+    let (list, mut replies) = random_list(heap, dice)?;
+    let (more, mut answers) = random_list(heap, dice)?;
     let (one, two) = in_two_sessions(
         make()?,
         Table::new(&mut slots),
-        &mut list,
+        &list,
+        &mut replies,
         make()?,
         Table::new(&mut others),
-        &mut more,
+        &more,
+        &mut answers,
         &mut bytes,
         &mut WorkMemory {
             lines: &mut lines,
@@ -221,8 +228,8 @@ fn two_sessions<G: Bounded + Drop, F: Fn() -> Result<G, Failure>>(
     );
     let (_, _) = one.close();
     let (_, _) = two.close();
-    tally.follow_all(make()?, &list);
-    tally.follow_all(make()?, &more);
+    tally.follow_all(make()?, &list, &replies);
+    tally.follow_all(make()?, &more, &answers);
     Ok(())
 }
 
