@@ -67,6 +67,7 @@ fn put_answer<G: Bounded, S: Store>(
 }
 
 // Writes a proof of the line's verdict for the floor into the buffer. The game is at its line again on every way out.
+#[tactic(auto, using(crate::proofs::Steps::written_in))]
 pub fn write<G: Bounded, S: Store>(
     game: &mut G,
     store: &mut S,
