@@ -166,6 +166,7 @@ impl Game for Graph {
         self.history.len()
     }
 
+    #[tactic(auto, using(crate::proofs::Standing::earlier_stands))]
     fn earlier(&self, n: u32) -> Words {
         Words {
             a: u64::from(self.history.at(n)),
@@ -174,6 +175,7 @@ impl Game for Graph {
         }
     }
 
+    #[tactic(auto, using(crate::proofs::Standing::pushed_legal, crate::proofs::Standing::pushed_follows))]
     fn play(&mut self, k: u32) -> Result<(), Refusal> {
         let n = self.here();
         if score_of(n.score).is_some() {

@@ -64,6 +64,7 @@ impl<G: Bounded> Bounded for Layered<G, Repetition> {
 
     ghost room = { λ s. repeated_room (G.Game.means s.game) (G.Game.line s.game) (G.Bounded.room s.game) };
 
+    #[tactic(auto, using(crate::proofs::Heights::over_repeated))]
     fn height(&self) -> u32 {
         self.game.height()
     }
