@@ -1,5 +1,5 @@
 -- The points of a set as a list, in their order.
-use Rattle.std.proofs.Common.{◌≡◌, ℕ, zero, suc, ◌+◌, ◌-◌, ◌*◌, ◌%◌, ◌^◌, ◌<◌, ◌≤◌, Bool, true, false, cond, [], ◌∷◌, ◌++◌, length, get_or, sym, refl, ap, ap₂, ◌∙◌, subst, inl, inr, add-one, zero-add, mod-lt, arith, lit≤, lt_of_lt_of_le, filter}
+use Rattle.std.proofs.Common.{◌≡◌, ℕ, zero, suc, ◌+◌, ◌-◌, ◌*◌, ◌%◌, ◌^◌, ◌<◌, ◌≤◌, Bool, true, false, cond, List, [], ◌∷◌, ◌++◌, length, get_or, sym, refl, ap, ap₂, ◌∙◌, subst, inl, inr, add-one, zero-add, mod-lt, arith, lit≤, lt_of_lt_of_le, filter}
 use native.Mathlib.Nat.{pow-le-pow_right}
 use Rattle.std.specs.List.{fold, range_with_len}
 use Rattle.std.proofs.lemmas.Grind.{fold-append}
@@ -87,6 +87,19 @@ set_folded f (suc k) h =
 
 pub set_found : (f : ℕ → Bool) (k : ℕ) → k ≤ 64 → fold (λ m p. bit_or m (1 * 2 ^ (p % 64) % 2 ^ 64)) 0 (filter f (range_with_len 0 k)) ≡ set_of k f
 set_found f k h = ap (fold put_in 0) (sym (list_is f k)) ∙ set_folded f k h
+
+-- a fold over what passes a test, and the fold over all that steps only there
+fold_filter : {A B : Type 0} (f : A → Bool) (h : B → A → B) (b : B) (xs : List A) → fold h b (filter f xs) ≡ fold (λ c x. cond (f x) (h c x) c) b xs
+fold_filter f h b [] = refl
+fold_filter f h b (x ∷ xs) =
+    elim (f x) as (λ t. fold h b (cond t (x ∷ filter f xs) (filter f xs)) ≡ fold (λ c x. cond (f x) (h c x) c) (cond t (h b x) b) xs) [
+      | true ↦ fold_filter f h (h b x) xs
+      | false ↦ fold_filter f h b xs
+    ]
+
+-- the same, as a program that tests each point on its way
+pub set_gathered : (f : ℕ → Bool) (k : ℕ) → k ≤ 64 → fold (λ m p. cond (f p) (bit_or m (1 * 2 ^ (p % 64) % 2 ^ 64)) m) 0 (range_with_len 0 k) ≡ set_of k f
+set_gathered f k h = sym (fold_filter f put_in 0 (range_with_len 0 k)) ∙ set_found f k h
 
 -- a number of the list is a point that passes the test
 pub member : (f : ℕ → Bool) (s k : ℕ) → k < length (list_of s f) → (get_or (list_of s f) k 0 < s) × (f (get_or (list_of s f) k 0) ≡ true)
