@@ -51,7 +51,7 @@ has_low : (a k r p : ℕ) → p < k → has (a * 2 ^ k + r) p ≡ has r p
 unfolding has
 has_low a k r p h = ap (λ x. eqb x 1) (bit_at_cat_low a k r p h)
 
-has_high : (a k r p : ℕ) → r < 2 ^ k → k ≤ p → has (a * 2 ^ k + r) p ≡ has a (p - k)
+pub has_high : (a k r p : ℕ) → r < 2 ^ k → k ≤ p → has (a * 2 ^ k + r) p ≡ has a (p - k)
 unfolding has
 has_high a k r p h g = ap (λ x. eqb x 1) (bit_at_cat_high a k r p h g)
 
