@@ -1,10 +1,10 @@
-ghost use Rattle.std.specs.Prelude.{◌≡◌, ℕ, ◌+◌, ◌*◌, ◌^◌, ◌<◌, ◌≤◌, List, [], ◌∷◌, length, Ok, Err};
+ghost use Rattle.std.specs.Prelude.{◌≡◌, ℕ, ◌+◌, ◌*◌, ◌^◌, ◌<◌, ◌≤◌, List, [], ◌∷◌, length, Ok, Err, cond, nat_le};
 ghost use Rattle.game.specs.Kinds.{number_of, other};
 ghost use Rattle.game.specs.Laws.{BoundedBy};
 ghost use Rattle.game.specs.Meaning.{Reachable};
 ghost use Rattle.game.specs.Prefixes.{prefix};
-ghost use Rattle.game.specs.Refusals.{refused_at};
-ghost use Rattle.go_rules.specs.Play.{moves_at, standing, win_for, atari_go, Position, empty_ones};
+ghost use Rattle.game.specs.Refusals.{refused_at, refused_by, line_after};
+ghost use Rattle.go_rules.specs.Play.{moves_at, after, standing, win_for, atari_go, Position, empty_ones};
 ghost use Rattle.go_rules.specs.Text.{read_fault, game_of};
 ghost use Rattle.go_rules.proofs.Laws.{placed_of, go_lawful, go_bounded};
 ghost use Rattle.go_rules.proofs.Walks.{Place-set, walked_present, walked_room};
@@ -79,6 +79,18 @@ impl AtariGo {
     {
         self.history.at(n)
     }
+
+    // Appends move k, which leads to the position next. Refused with 3 where the line has 96 moves.
+    fn append(&mut self, k: u8, next: Place) -> Result<(), Refusal>
+        requires legal { k < length (moves_at self.old.board.n (standing self.old.board.n self.old.history.start (line_of self.old.history))) }
+        requires leads { next ≡ after self.old.board.n (standing self.old.board.n self.old.history.start (line_of self.old.history)) k }
+        ensures board { self.new.board.n ≡ self.old.board.n }
+        ensures start { self.new.history.start ≡ self.old.history.start }
+        ensures answer { refused_by result ≡ cond (nat_le 96 (length (line_of self.old.history))) 3 0 }
+        ensures moved { line_of self.new.history ≡ line_after (refused_by result) (k ∷ line_of self.old.history) (line_of self.old.history) }
+    {
+        self.history.push(k, next)
+    }
 }
 
 impl Game for AtariGo {
@@ -144,7 +156,7 @@ impl Game for AtariGo {
             return Err(Refusal::NoSuchMove);
         }
         let next = place_after(&self.board, self.here(), k);
-        self.history.push(k as u8, next)
+        self.append(k as u8, next)
     }
 
     fn take_back(&mut self) -> Result<(), Refusal> {
@@ -158,6 +170,7 @@ impl Bounded for AtariGo {
     ghost room = { λ s. walked_room s.board.n s.board.high s.history.start s.good (line_of s.history) s.legal };
 
     // The empty points at the start, as many as the moves of a longest line may be.
+    #[tactic(auto, using(go_rules::proofs::Laws::go_height))]
     fn height(&self) -> u32 {
         u32::from(empty_count(&self.board, self.history.start()))
     }

@@ -196,3 +196,7 @@ module _ (n : ℕ) (high : n ≤ 7) (start : Place) (good : Placed n start) wher
             let none : length (moves_at n (standing n start l)) ≡ 0 = omega (arith, here.1, few) in
             ap (λ b. is_some (cond b (Some (win_for (other (standing n start l).side))) None)) (eq-eqb _ 0 none);
       }
+
+-- the height, as a program counts it
+pub go_height : (n : ℕ) (start : Place) (h : ℕ) → h ≡ empty_ones n start → n ≤ 7 → Position n start → BoundedBy (atari_go n start) h
+go_height n start h e high good = subst (BoundedBy (atari_go n start)) (sym e) (go_bounded n high start (placed_of n start good))

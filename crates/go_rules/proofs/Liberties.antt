@@ -145,22 +145,31 @@ module _ (n own foe : ℕ) (on_own : OnBoard n own) (on_foe : OnBoard n foe) whe
         λ m. and_from free _ m.empty (fill.1 m.fair),
       )
 
+  -- the set of the legal moves, where each group of the side on turn has a liberty
+  pub moves_live : (p : ℕ) → living n own (free_of n own foe) ≡ own
+      → (has (set_of (n * n) (legal n own foe)) p ≡ true → ((q : ℕ) → has own q ≡ true → HasLiberty n own (free_of n own foe) q) × LegalMove n own foe p)
+      × (((q : ℕ) → has own q ≡ true → HasLiberty n own (free_of n own foe) q) × LegalMove n own foe p → has (set_of (n * n) (legal n own foe)) p ≡ true)
+  unfolding all_live
+  moves_live p alive = (
+    λ e.
+        let h = has_inside (n * n) (set_of (n * n) (legal n own foe)) p (set_lt (n * n) (legal n own foe)) e in
+        (all_live_lem.0 (eq-eqb _ own alive), (legal_is p h).0 (sym (has_set (n * n) (legal n own foe) p h) ∙ e)),
+    λ m.
+        let h = has_inside (n * n) (free_of n own foe) p (free_on n own foe) m.1.empty in
+        has_set (n * n) (legal n own foe) p h ∙ (legal_is p h).1 m.1,
+  )
+
+  -- the test of a program, where each group has one
+  pub alive_all : ((q : ℕ) → has own q ≡ true → HasLiberty n own (free_of n own foe) q) → living n own (free_of n own foe) ≡ own
+  unfolding all_live
+  alive_all each = eqb-true _ own (all_live_lem.1 each)
+
   moves_are : Moves n own foe (move_set n own foe)
-  unfolding move_set
+  unfolding move_set all_live
   moves_are p =
       elim (cases_Bool (all_live n own foe)) [
-        | inl t ↦ rw t (
-          λ e.
-              let h = has_inside (n * n) (set_of (n * n) (legal n own foe)) p (set_lt (n * n) (legal n own foe)) e in
-              (all_live_lem.0 t, (legal_is p h).0 (sym (has_set (n * n) (legal n own foe) p h) ∙ e)),
-          λ m.
-              let h = has_inside (n * n) (free_of n own foe) p (free_on n own foe) m.1.empty in
-              has_set (n * n) (legal n own foe) p h ∙ (legal_is p h).1 m.1,
-        )
-        | inr t ↦ rw t (
-          λ e. absurd (true≢false (sym e ∙ has_zero p)),
-          λ m. absurd (true≢false (sym (all_live_lem.1 m.0) ∙ t)),
-        )
+        | inl t ↦ rw t (moves_live p (eqb-true _ own t))
+        | inr t ↦ rw t (λ e. absurd (true≢false (sym e ∙ has_zero p)), λ m. absurd (true≢false (sym (all_live_lem.1 m.0) ∙ t)))
       ]
 
 -- the moves that a program found are the legal ones

@@ -1,5 +1,5 @@
 -- What holds at a line that was played.
-use Rattle.std.proofs.Common.{◌≡◌, ℕ, zero, suc, ◌-◌, ◌*◌, ◌^◌, ◌<◌, ◌≤◌, [], ◌∷◌, length, drop, arith}
+use Rattle.std.proofs.Common.{ℕ, zero, suc, ◌-◌, ◌*◌, ◌^◌, ◌<◌, ◌≤◌, [], ◌∷◌, length, drop, arith}
 use mathlib.Core.Sum.{⊎_set}
 use denote.Struct.Props.{props}
 use Rattle.game.specs.Meaning.{Line, Meaning, Reachable}
@@ -9,7 +9,7 @@ use Rattle.point_sets.specs.Points.{has}
 use Rattle.point_sets.proofs.Lists.{length_le}
 use Rattle.go_rules.specs.declared.place.Place.{Place}
 use Rattle.go_rules.specs.Rules.{free_of}
-use Rattle.go_rules.specs.Play.{empty_ones, moves_at, standing, atari_go, Position}
+use Rattle.go_rules.specs.Play.{moves_at, standing, atari_go, Position}
 use Rattle.go_rules.proofs.Laws.{Placed, placed_of, go_lawful, reached_good, moves_few, word}
 use Rattle.go_rules.proofs.Around.{small_board}
 

@@ -1,7 +1,7 @@
 // Free points, groups with a liberty, and legal moves. They are functions over a board and sets of points: as methods of the
 // board they would only say its name in another place.
-ghost use Rattle.std.specs.Prelude.{◌≡◌, ℕ, ◌<◌, true, bit_and};
-ghost use Rattle.point_sets.specs.Points.{has};
+ghost use Rattle.std.specs.Prelude.{◌≡◌, ℕ, ◌*◌, ◌<◌, true, bit_and};
+ghost use Rattle.point_sets.specs.Points.{has, set_of};
 ghost use Rattle.go_rules.specs.Groups.{around, OnBoard};
 ghost use Rattle.go_rules.specs.Rules.{free_of, living, Living, group_of, liberties_of, Group, Liberties, with_stone, may_fill, legal, move_set, Moves};
 
@@ -91,10 +91,17 @@ impl<'a> Mover<'a> {
     {
         has_point(self.wide, p) || has_point(self.free, p) && self.may_fill(p)
     }
+
+    // The set of the legal moves.
+    fn moves(&self) -> u64
+        ensures { result ≡ set_of (self.now.board.now.n * self.now.board.now.n) (legal self.now.board.now.n self.now.own self.now.foe) }
+    {
+        points_where(self.board.size(), |p| self.is_legal(p))
+    }
 }
 
 // The legal moves of the side whose stones are own; none where one of its groups has no liberty.
-#[tactic(auto, unfolding(crate::specs::Rules::move_set, crate::specs::Rules::all_live))]
+#[tactic(auto, using(crate::proofs::Liberties::moves_live, crate::proofs::Liberties::alive_all, point_sets::proofs::Sets::has_zero), unfolding(crate::specs::Rules::move_set, crate::specs::Rules::all_live))]
 pub fn legal_moves(board: &Board, own: u64, foe: u64) -> u64
     ensures is { result ≡ move_set board.now.n own foe }
     ensures legal { OnBoard board.now.n own → OnBoard board.now.n foe → Moves board.now.n own foe result }
@@ -111,5 +118,5 @@ pub fn legal_moves(board: &Board, own: u64, foe: u64) -> u64
         wide: free & board.around(free),
         before: living_stones(board, foe, free),
     };
-    points_where(board.size(), |p| mover.is_legal(p))
+    mover.moves()
 }

@@ -1,6 +1,5 @@
 -- The facts that a game keeps of its line have one proof at most.
-use Rattle.std.proofs.Common.{ℕ, List, [], ◌∷◌}
-use mathlib.Core.HLevel.{Unit-prop}
+use Rattle.std.proofs.Common.{List, [], ◌∷◌}
 use denote.Struct.Props.{props}
 use Rattle.game.specs.Meaning.{Line, Meaning, Reachable}
 use Rattle.history.specs.declared.history.Step.{Step}

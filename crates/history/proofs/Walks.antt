@@ -1,5 +1,5 @@
 -- Where the steps of a walk lead.
-use Rattle.std.proofs.Common.{◌≡◌, ℕ, zero, suc, ◌-◌, min, List, [], ◌∷◌, ◌++◌, length, take, drop, reverse, sym, refl, ap, ◌∙◌, arith, take-append-drop, length-drop}
+use Rattle.std.proofs.Common.{◌≡◌, ℕ, zero, suc, ◌-◌, min, List, [], ◌∷◌, length, take, drop, reverse, sym, ap, ◌∙◌, arith, take-append-drop, length-drop}
 use Rattle.std.proofs.lemmas.List.{length-map, drop-map, drop_at, reverse-append, length-reverse}
 use Rattle.game.specs.Meaning.{Line}
 use Rattle.game.specs.Prefixes.{prefix}

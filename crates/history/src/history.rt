@@ -83,14 +83,21 @@ impl<P: Copy> History<P> {
         led_to(self.start, self.steps.as_slice())
     }
 
-    // The position of the prefix of n moves, or of the line where it has no more.
+    // The position that the first n steps lead to, or all where there are no more.
     #[tactic(auto, using(crate::proofs::Walks::first_reversed))]
+    fn place_at(&self, n: u32) -> P
+        ensures { result ≡ place_at self.now n }
+    {
+        let first = (n as usize).min(self.steps.len());
+        led_to(self.start, &self.steps.as_slice()[..first])
+    }
+
+    // The position of the prefix of n moves, or of the line where it has no more.
     pub fn at(&self, n: u32) -> P
         ensures is { result ≡ place_at self.now n }
         ensures stands { (stands : Line → P) → Follows stands self.now → result ≡ stands (prefix n (line_of self.now)) }
     {
-        let first = (n as usize).min(self.steps.len());
-        led_to(self.start, &self.steps.as_slice()[..first])
+        self.place_at(n)
     }
 
     // Appends a move that leads to this position. Refused with 3 where the line has 96 moves.

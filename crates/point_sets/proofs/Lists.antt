@@ -1,5 +1,5 @@
 -- The points of a set as a list, in their order.
-use Rattle.std.proofs.Common.{◌≡◌, ℕ, zero, suc, ◌+◌, ◌-◌, ◌*◌, ◌%◌, ◌^◌, ◌<◌, ◌≤◌, Bool, true, false, cond, [], ◌∷◌, ◌++◌, length, get_or, sym, refl, ap, ap₂, ◌∙◌, subst, inl, inr, add-one, zero-add, mod-lt, arith, lit≤, lt_of_lt_of_le, filter}
+use Rattle.std.proofs.Common.{◌≡◌, ℕ, zero, suc, ◌+◌, ◌-◌, ◌*◌, ◌%◌, ◌^◌, ◌<◌, ◌≤◌, Bool, true, false, cond, List, [], ◌∷◌, ◌++◌, length, get_or, sym, refl, ap, ap₂, ◌∙◌, subst, inl, inr, add-one, zero-add, mod-lt, arith, lit≤, lt_of_lt_of_le, filter}
 use native.Mathlib.Nat.{pow-le-pow_right}
 use Rattle.std.specs.List.{fold, range_with_len}
 use Rattle.std.proofs.lemmas.Grind.{fold-append}
@@ -10,7 +10,7 @@ use lib.Count.{ones, ones_cat}
 use Rattle.std.proofs.lemmas.List.{map-id, append-nil, length_push, get_or_append_left, get_or_push, get_or_past}
 use Rattle.std.proofs.lemmas.Bool.{cases_lt, cases_Bool, cases_eq}
 use Rattle.point_sets.specs.Points.{has, set_of, list_of}
-use Rattle.point_sets.proofs.Sets.{has_set, has_mod, set_lt, set_more, same_set, next_set}
+use Rattle.point_sets.proofs.Sets.{has_set, has_mod, set_lt, set_more, set_one_more, same_set, next_set}
 
 module _ (f : ℕ → Bool) where
   length_step : (p : ℕ) → length (list_of (suc p) f) ≡ length (list_of p f) + cond (f p) 1 0
@@ -71,22 +71,35 @@ list_is f (suc s) =
     ∙ sym (simp map-id at (filter_of_map_range_with_len_more f (λ x. x) 0 s s (zero-add s)))
     ∙ ap (λ k. filter f (range_with_len 0 k)) (add-one s)
 
--- the points put together again, as a program does
-abbrev put_in : ℕ → ℕ → ℕ
-put_in m p = bit_or m (1 * 2 ^ (p % 64) % 2 ^ 64)
-
-set_folded : (f : ℕ → Bool) (k : ℕ) → k ≤ 64 → fold put_in 0 (list_of k f) ≡ set_of k f
-set_folded f zero h = refl
-set_folded f (suc k) h =
-    let ih = set_folded f k (omega arith) in
-    fold-append put_in 0 (list_of k f) (cond (f k) (k ∷ []) [])
-    ∙ elim (f k) as (λ b. fold put_in (fold put_in 0 (list_of k f)) (cond b (k ∷ []) []) ≡ set_of k f + cond b (2 ^ k) 0) [
-      | true ↦ ap (λ m. put_in m k) ih ∙ set_more k (set_of k f) (set_lt k f) (omega arith)
+-- the points put together again, by a step that puts in one more
+set_folded : (put : ℕ → ℕ → ℕ) → ((p m : ℕ) → m < 2 ^ p → p < 64 → put m p ≡ m + 2 ^ p) → (f : ℕ → Bool) (k : ℕ) → k ≤ 64 → fold put 0 (list_of k f) ≡ set_of k f
+set_folded put more f zero h = refl
+set_folded put more f (suc k) h =
+    let ih = set_folded put more f k (omega arith) in
+    fold-append put 0 (list_of k f) (cond (f k) (k ∷ []) [])
+    ∙ elim (f k) as (λ b. fold put (fold put 0 (list_of k f)) (cond b (k ∷ []) []) ≡ set_of k f + cond b (2 ^ k) 0) [
+      | true ↦ ap (λ m. put m k) ih ∙ more k (set_of k f) (set_lt k f) (omega arith)
       | false ↦ omega (arith, ih)
     ]
 
 pub set_found : (f : ℕ → Bool) (k : ℕ) → k ≤ 64 → fold (λ m p. bit_or m (1 * 2 ^ (p % 64) % 2 ^ 64)) 0 (filter f (range_with_len 0 k)) ≡ set_of k f
-set_found f k h = ap (fold put_in 0) (sym (list_is f k)) ∙ set_folded f k h
+set_found f k h =
+    ap (fold (λ m p. bit_or m (1 * 2 ^ (p % 64) % 2 ^ 64)) 0) (sym (list_is f k)) ∙ set_folded (λ m p. bit_or m (1 * 2 ^ (p % 64) % 2 ^ 64)) set_more f k h
+
+-- a fold over what passes a test, and the fold over all that steps only there
+fold_filter : {A B : Type 0} (f : A → Bool) (h : B → A → B) (b : B) (xs : List A) → fold h b (filter f xs) ≡ fold (λ c x. cond (f x) (h c x) c) b xs
+fold_filter f h b [] = refl
+fold_filter f h b (x ∷ xs) =
+    elim (f x) as (λ t. fold h b (cond t (x ∷ filter f xs) (filter f xs)) ≡ fold (λ c x. cond (f x) (h c x) c) (cond t (h b x) b) xs) [
+      | true ↦ fold_filter f h (h b x) xs
+      | false ↦ fold_filter f h b xs
+    ]
+
+-- the same, as a program that tests each point on its way
+pub set_gathered : (f : ℕ → Bool) (k : ℕ) → k ≤ 64 → fold (λ m p. cond (f p) (bit_or m (1 * 2 ^ p % 2 ^ 64)) m) 0 (range_with_len 0 k) ≡ set_of k f
+set_gathered f k h =
+    let put = λ (m p : ℕ). bit_or m (1 * 2 ^ p % 2 ^ 64) in
+    sym (fold_filter f put 0 (range_with_len 0 k)) ∙ ap (fold put 0) (sym (list_is f k)) ∙ set_folded put set_one_more f k h
 
 -- a number of the list is a point that passes the test
 pub member : (f : ℕ → Bool) (s k : ℕ) → k < length (list_of s f) → (get_or (list_of s f) k 0 < s) × (f (get_or (list_of s f) k 0) ≡ true)

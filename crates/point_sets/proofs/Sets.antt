@@ -51,7 +51,7 @@ has_low : (a k r p : ℕ) → p < k → has (a * 2 ^ k + r) p ≡ has r p
 unfolding has
 has_low a k r p h = ap (λ x. eqb x 1) (bit_at_cat_low a k r p h)
 
-has_high : (a k r p : ℕ) → r < 2 ^ k → k ≤ p → has (a * 2 ^ k + r) p ≡ has a (p - k)
+pub has_high : (a k r p : ℕ) → r < 2 ^ k → k ≤ p → has (a * 2 ^ k + r) p ≡ has a (p - k)
 unfolding has
 has_high a k r p h g = ap (λ x. eqb x 1) (bit_at_cat_high a k r p h g)
 
@@ -146,10 +146,13 @@ cases_differ (suc k) a b =
     top x y = grind arith
 
 -- one more point, as a program puts it in
+pub set_one_more : (p m : ℕ) → m < 2 ^ p → p < 64 → bit_or m (1 * 2 ^ p % 2 ^ 64) ≡ m + 2 ^ p
+set_one_more p m low h = ap (bit_or m) (one_shl p 64 h ∙ omega arith) ∙ or_comm m (1 * 2 ^ p) ∙ or_shifted 1 p m low ∙ omega arith
+
 pub set_more : (p m : ℕ) → m < 2 ^ p → p < 64 → bit_or m (1 * 2 ^ (p % 64) % 2 ^ 64) ≡ m + 2 ^ p
 set_more p m low h =
     let small : p % 64 ≡ p = omega arith in
-    ap (bit_or m) (ap (λ (k : ℕ). 1 * 2 ^ k % 2 ^ 64) small ∙ one_shl p 64 h ∙ omega arith) ∙ or_comm m (1 * 2 ^ p) ∙ or_shifted 1 p m low ∙ omega arith
+    ap (λ (k : ℕ). bit_or m (1 * 2 ^ k % 2 ^ 64)) small ∙ set_one_more p m low h
 
 -- no word has a place from 64 on
 pub past_word : (m p : ℕ) → m < 2 ^ 64 → 64 ≤ p → ltb p 64 ≡ has m p
