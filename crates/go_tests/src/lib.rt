@@ -9,18 +9,20 @@ mod tests {
     use game::refusal::{PositionRefusal, Refusal};
     use std::test::Fail;
 
-    // The refusal of a text that is out of form at this byte.
-    fn out_of_form(place: usize) -> Option<PositionRefusal> {
-        Some(PositionRefusal::OutOfForm { place })
+    // The number and the place of the refusal of a text that is out of form at this byte.
+    fn out_of_form(place: usize) -> Option<(u8, usize)> {
+        Some((14, place))
     }
 
-    // The refusal of a text where the group at this point has no liberty.
-    fn not_allowed(place: usize) -> Option<PositionRefusal> {
-        Some(PositionRefusal::NotAllowed { place })
+    // The same of a text where the group at this point has no liberty.
+    fn not_allowed(place: usize) -> Option<(u8, usize)> {
+        Some((15, place))
     }
 
-    fn refusal(text: &[u8]) -> Option<PositionRefusal> {
-        AtariGo::read(text).err()
+    fn refusal(text: &[u8]) -> Option<(u8, usize)> {
+        AtariGo::read(text)
+            .err()
+            .map(|refusal| (refusal.number(), refusal.place()))
     }
 
     // The number of moves and the height of a position.
@@ -28,13 +30,17 @@ mod tests {
         AtariGo::read(text).map(|game| (game.moves(), game.height()))
     }
 
-    // What came of a move: the words a and b and the score after it, or its refusal.
-    type After = Result<(u64, u64, Option<Score>), Refusal>;
+    // What came of a move: the words a and b and the points of the score after it, or the number of its refusal.
+    type After = Result<(u64, u64, Option<u8>), u8>;
 
     // What came of a move of a position.
     fn after(text: &[u8], k: u32) -> Result<After, PositionRefusal> {
         let mut game = AtariGo::read(text)?;
-        Ok(game.play(k).map(|()| (game.a(), game.b(), game.score())))
+        Ok(
+            game.play(k)
+                .map(|()| (game.a(), game.b(), game.score().map(Score::points)))
+                .map_err(Refusal::number),
+        )
     }
 
     #[test]
@@ -82,17 +88,11 @@ mod tests {
     fn captures(rt: HostRuntime) -> Result<(), Fail> {
         assert_eq!(rt;
             after(b"G3:B:WB.......", 1)?,
-            Ok((10, 1 + (1 << 49), Some(Score::BlackWins)))
+            Ok((10, 1 + (1 << 49), Some(2)))
         );
         assert_eq!(rt; after(b"G3:B:WB.......", 0)?, Ok((6, 1 + (1 << 49), None)));
-        assert_eq!(rt;
-            after(b"G3:W:WBW......", 1)?,
-            Ok((2, 21, Some(Score::WhiteWins)))
-        );
-        assert_eq!(rt;
-            after(b"G3:W:B.BWBW...", 0)?,
-            Ok((21, 42, Some(Score::WhiteWins)))
-        );
+        assert_eq!(rt; after(b"G3:W:WBW......", 1)?, Ok((2, 21, Some(0))));
+        assert_eq!(rt; after(b"G3:W:B.BWBW...", 0)?, Ok((21, 42, Some(0))));
         Ok(())
     }
 
@@ -105,16 +105,13 @@ mod tests {
 
     #[test]
     fn refused_calls(rt: HostRuntime) -> Result<(), Fail> {
-        assert_eq!(rt; after(b"G3:B:WB.......", 7)?, Err(Refusal::NoSuchMove));
-        assert_eq!(rt;
-            after(b"G3:B:WB.......", 4294967295)?,
-            Err(Refusal::NoSuchMove)
-        );
-        assert_eq!(rt; after(b"G3:B:.BBBBBBBB", 0)?, Err(Refusal::LineOver));
+        assert_eq!(rt; after(b"G3:B:WB.......", 7)?, Err(1));
+        assert_eq!(rt; after(b"G3:B:WB.......", 4294967295)?, Err(1));
+        assert_eq!(rt; after(b"G3:B:.BBBBBBBB", 0)?, Err(2));
         let mut game = AtariGo::read(b"G3:B:WB.......")?;
-        assert_eq!(rt; game.take_back(), Err(Refusal::AtStart));
+        assert_eq!(rt; game.take_back().map_err(Refusal::number), Err(4));
         assert_eq!(rt; game.play(1), Ok(()));
-        assert_eq!(rt; game.play(0), Err(Refusal::LineOver));
+        assert_eq!(rt; game.play(0).map_err(Refusal::number), Err(2));
         assert_eq!(rt; game.level(), 6);
         assert_eq!(rt; game.earlier(0).a, 2);
         assert_eq!(rt; game.take_back(), Ok(()));

@@ -54,9 +54,9 @@ mod tests {
         moves.iter().all(|k| game.play(*k).is_ok())
     }
 
-    // What is told of the present line: its length, the moves, and the score where it is over.
-    fn told<G: Game>(game: &G) -> (u32, u32, Option<Score>) {
-        (game.played(), game.moves(), game.score())
+    // What is told of the present line: its length, the moves, and the points of the score where it is over.
+    fn told<G: Game>(game: &G) -> (u32, u32, Option<u8>) {
+        (game.played(), game.moves(), game.score().map(Score::points))
     }
 
     #[test]
@@ -66,8 +66,8 @@ mod tests {
         assert!(rt; walk(&mut game, &[0, 0]));
         assert_eq!(rt; told(&game), (2, 1, None));
         assert!(rt; walk(&mut game, &[0]));
-        assert_eq!(rt; told(&game), (3, 0, Some(Score::Draw)));
-        assert_eq!(rt; game.play(0), Err(Refusal::LineOver));
+        assert_eq!(rt; told(&game), (3, 0, Some(1)));
+        assert_eq!(rt; game.play(0).map_err(Refusal::number), Err(2));
         Ok(())
     }
 
@@ -77,7 +77,7 @@ mod tests {
         assert!(rt; walk(&mut game, &[1, 0, 0]));
         assert_eq!(rt; told(&game), (3, 2, None));
         assert!(rt; walk(&mut game, &[1]));
-        assert_eq!(rt; told(&game), (4, 0, Some(Score::BlackWins)));
+        assert_eq!(rt; told(&game), (4, 0, Some(2)));
         Ok(())
     }
 
@@ -86,8 +86,8 @@ mod tests {
         let mut game = Repeat::over(Limit::over(fork()?, 2), ());
         assert_eq!(rt; game.height(), 2);
         assert!(rt; walk(&mut game, &[1, 0]));
-        assert_eq!(rt; told(&game), (2, 0, Some(Score::Draw)));
-        assert_eq!(rt; game.play(0), Err(Refusal::LineOver));
+        assert_eq!(rt; told(&game), (2, 0, Some(1)));
+        assert_eq!(rt; game.play(0).map_err(Refusal::number), Err(2));
         Ok(())
     }
 
@@ -101,20 +101,20 @@ mod tests {
         assert!(rt; walk(&mut game, &[1]));
         assert_eq!(rt; (game.independent(), game.context()), (false, 2));
         assert!(rt; walk(&mut game, &[0, 0]));
-        assert_eq!(rt; told(&game), (3, 0, Some(Score::Draw)));
+        assert_eq!(rt; told(&game), (3, 0, Some(1)));
         Ok(())
     }
 
     // The height of one node that leads to itself under this limit, and what is told of its empty line.
-    fn limited(limit: u32) -> Result<(u32, u32, Option<Score>), PositionRefusal> {
+    fn limited(limit: u32) -> Result<(u32, u32, Option<u8>), PositionRefusal> {
         let game = Limit::over(endless()?, limit);
-        let (_, moves, score) = told(&game);
-        Ok((game.height(), moves, score))
+        let (_, moves, points) = told(&game);
+        Ok((game.height(), moves, points))
     }
 
     #[test]
     fn limits_are_cut_down(rt: HostRuntime) -> Result<(), Fail> {
-        assert_eq!(rt; limited(0)?, (0, 0, Some(Score::Draw)));
+        assert_eq!(rt; limited(0)?, (0, 0, Some(1)));
         assert_eq!(rt; limited(1)?, (1, 1, None));
         assert_eq!(rt; limited(96)?, (96, 1, None));
         assert_eq!(rt; limited(97)?, (96, 1, None));
@@ -125,34 +125,25 @@ mod tests {
     #[test]
     fn what_is_over_below_keeps_its_score(rt: HostRuntime) -> Result<(), Fail> {
         let mut game = Limit::over(Graph::new(&[end(0)])?, 0);
-        assert_eq!(rt; told(&game), (0, 0, Some(Score::WhiteWins)));
-        assert_eq!(rt; game.play(0), Err(Refusal::LineOver));
+        assert_eq!(rt; told(&game), (0, 0, Some(0)));
+        assert_eq!(rt; game.play(0).map_err(Refusal::number), Err(2));
         Ok(())
     }
 
-    // How many of 200 plays of move 0 are accepted, and what comes of the next.
-    fn run_on<G: Game>(game: &mut G) -> (u32, Result<(), Refusal>) {
+    // How many of 200 plays of move 0 are accepted, and what comes of the next, a refusal by its number.
+    fn run_on<G: Game>(game: &mut G) -> (u32, Result<(), u8>) {
         for _ in 0..200 {
             let _ = game.play(0);
         }
-        (game.played(), game.play(0))
+        (game.played(), game.play(0).map_err(Refusal::number))
     }
 
     #[test]
     fn a_line_of_96_moves(rt: HostRuntime) -> Result<(), Fail> {
-        assert_eq!(rt; run_on(&mut endless()?), (96, Err(Refusal::LineFull)));
-        assert_eq!(rt;
-            run_on(&mut Limit::over(endless()?, 97)),
-            (96, Err(Refusal::LineOver))
-        );
-        assert_eq!(rt;
-            run_on(&mut Limit::over(endless()?, 95)),
-            (95, Err(Refusal::LineOver))
-        );
-        assert_eq!(rt;
-            run_on(&mut Repeat::over(endless()?, ())),
-            (1, Err(Refusal::LineOver))
-        );
+        assert_eq!(rt; run_on(&mut endless()?), (96, Err(3)));
+        assert_eq!(rt; run_on(&mut Limit::over(endless()?, 97)), (96, Err(2)));
+        assert_eq!(rt; run_on(&mut Limit::over(endless()?, 95)), (95, Err(2)));
+        assert_eq!(rt; run_on(&mut Repeat::over(endless()?, ())), (1, Err(2)));
         Ok(())
     }
 
@@ -168,18 +159,20 @@ mod tests {
         Ok(())
     }
 
-    // The refusal of nodes that are not allowed, which shows at this place.
-    fn not_allowed(place: usize) -> Option<PositionRefusal> {
-        Some(PositionRefusal::NotAllowed { place })
+    // The number and the place of the refusal of nodes that are not allowed, which shows at this place.
+    fn not_allowed(place: usize) -> Option<(u8, usize)> {
+        Some((15, place))
     }
 
-    // The refusal of these nodes.
-    fn refused(nodes: &[Node]) -> Option<PositionRefusal> {
-        Graph::new(nodes).err()
+    // The same of these nodes.
+    fn refused(nodes: &[Node]) -> Option<(u8, usize)> {
+        Graph::new(nodes)
+            .err()
+            .map(|refusal| (refusal.number(), refusal.place()))
     }
 
     // The same of 64 nodes of which one, at this place, is another.
-    fn refused_with(place: usize, node: Node) -> Option<PositionRefusal> {
+    fn refused_with(place: usize, node: Node) -> Option<(u8, usize)> {
         let mut nodes = [going(1, 1, 63, 200); 64];
         if let Some(at) = nodes.get_mut(place) {
             *at = node;

@@ -150,24 +150,24 @@ mod tests {
     fn refusals(rt: HostRuntime) -> Result<(), Fail> {
         let mut game = fork_at(10, &[1, 0])?;
         assert_eq!(rt;
-            answered(&mut game, &mut Null, 0, 100, 97, 6_208),
-            Err(SolveRefusal::Floor)
+            answered(&mut game, &mut Null, 0, 100, 97, 6_208).map_err(SolveRefusal::number),
+            Err(5)
         );
         assert_eq!(rt;
-            answered(&mut game, &mut Null, 3, 100, 96, 6_208),
-            Err(SolveRefusal::Floor)
+            answered(&mut game, &mut Null, 3, 100, 96, 6_208).map_err(SolveRefusal::number),
+            Err(5)
         );
         assert_eq!(rt;
-            answered(&mut game, &mut Null, 258, 100, 97, 6_208),
-            Err(SolveRefusal::Floor)
+            answered(&mut game, &mut Null, 258, 100, 97, 6_208).map_err(SolveRefusal::number),
+            Err(5)
         );
         assert_eq!(rt;
-            answered(&mut game, &mut Null, 2, 100, 96, 6_208),
-            Err(SolveRefusal::Memory)
+            answered(&mut game, &mut Null, 2, 100, 96, 6_208).map_err(SolveRefusal::number),
+            Err(6)
         );
         assert_eq!(rt;
-            answered(&mut game, &mut Null, 1, 100, 97, 6_207),
-            Err(SolveRefusal::Memory)
+            answered(&mut game, &mut Null, 1, 100, 97, 6_207).map_err(SolveRefusal::number),
+            Err(6)
         );
         assert_eq!(rt; game.played(), 2);
         assert_eq!(rt;
