@@ -2,7 +2,7 @@
 ghost use Rattle.std.specs.Prelude.{◌≡◌, List, [], Bool, ℕ};
 ghost use Rattle.game.specs.Prefixes.{any_prefix, words_of};
 ghost use Rattle.game.specs.declared.kinds.Words.{Words};
-ghost use Rattle.layer_rules.specs.Layers.{repeat_layer, repeated};
+ghost use Rattle.layer_rules.specs.Layers.{same_position, has_position, has_level, repeat_layer, repeated};
 ghost use Rattle.layer_rules.proofs.Repeats.{repeated_lawful, repeated_present, repeated_height, repeated_room};
 
 use crate::layered::{Layered, Rule};
@@ -24,6 +24,27 @@ fn any_earlier<G: Game, F: Fn(Words) -> bool>(game: &G, test: F) -> bool
     (0..game.played()).any(|n| test(game.earlier(n)))
 }
 
+// Whether both position words are these.
+fn same_position(words: Words, a: u64, b: u64) -> bool
+    ensures { result ≡ same_position words a b }
+{
+    (words.a, words.b) == (a, b)
+}
+
+// Whether a prefix of the present line has these position words.
+fn seen<G: Game>(game: &G, a: u64, b: u64) -> bool
+    ensures { result ≡ has_position (G.Game.means game.now) a b (G.Game.line game.now) }
+{
+    any_earlier(game, |w| same_position(w, a, b))
+}
+
+// Whether a prefix of the present line has this level.
+fn stayed<G: Game>(game: &G, level: u16) -> bool
+    ensures { result ≡ has_level (G.Game.means game.now) level (G.Game.line game.now) }
+{
+    any_earlier(game, |w| w.level == level)
+}
+
 impl Rule for Repetition {
     type Value = ();
 
@@ -37,8 +58,7 @@ impl Rule for Repetition {
 
     // Whether a prefix has the position words of the line.
     fn ends<G: Game>(&self, game: &G) -> bool {
-        let position = (game.a(), game.b());
-        any_earlier(game, |w| (w.a, w.b) == position)
+        seen(game, game.a(), game.b())
     }
 
     fn context<G: Game>(&self, game: &G) -> u64 {
@@ -49,8 +69,7 @@ impl Rule for Repetition {
     // a line, and LLVM makes one call of two, but does not make one loop of two.
     #[inline(never)]
     fn independent<G: Game>(&self, game: &G) -> bool {
-        let level = game.level();
-        game.independent() && !any_earlier(game, |w| w.level == level)
+        game.independent() && !stayed(game, game.level())
     }
 
     ghost lawful = { λ _. repeated_lawful };
