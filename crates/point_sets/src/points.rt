@@ -22,8 +22,7 @@ pub fn count_points(m: u64, size: u32) -> u32
     }
 }
 
-// The points of m but for the first k of them, each of which is the lowest when it goes. A word has no more than 64 points, and the
-// lowest place of an empty one is 64.
+// The points of m but for the first k of them, each of which is the lowest when it goes. A word has no more than 64 points.
 fn after_first(m: u64, k: u32) -> u64
     ensures { (s : ℕ) → list_of s (has result) ≡ drop k (list_of s (has m)) }
 {
