@@ -55,6 +55,83 @@ fn ask_all<G: Bounded, S: Store>(
     Ok(())
 }
 
+// A limit over any game. Each stack of layers is laid in a function of its own, out of line: in one frame, every case would blank
+// the room for the games of all of them.
+#[inline(never)]
+fn in_limit<G: Game + Drop, S: Store>(
+    rt: &HostRuntime,
+    game: G,
+    n: u32,
+    store: &mut S,
+    asked: Peekable<Fields<'_>>,
+) -> io::Result<()> {
+    ask_all(rt, &mut Limit::over(game, n), store, asked)
+}
+
+// A limit over a limit.
+#[inline(never)]
+fn in_limits<G: Game + Drop, S: Store>(
+    rt: &HostRuntime,
+    game: G,
+    (n, top): (u32, u32),
+    store: &mut S,
+    asked: Peekable<Fields<'_>>,
+) -> io::Result<()> {
+    ask_all(
+        rt,
+        &mut Limit::over(Limit::over(game, n), top),
+        store,
+        asked,
+    )
+}
+
+// A limit over the repetition rule.
+#[inline(never)]
+fn in_repeat_limit<G: Game + Drop, S: Store>(
+    rt: &HostRuntime,
+    game: G,
+    n: u32,
+    store: &mut S,
+    asked: Peekable<Fields<'_>>,
+) -> io::Result<()> {
+    ask_all(
+        rt,
+        &mut Limit::over(Repeat::over(game, ()), n),
+        store,
+        asked,
+    )
+}
+
+// The repetition rule over a limit.
+#[inline(never)]
+fn in_limit_repeat<G: Game + Drop, S: Store>(
+    rt: &HostRuntime,
+    game: G,
+    n: u32,
+    store: &mut S,
+    asked: Peekable<Fields<'_>>,
+) -> io::Result<()> {
+    ask_all(
+        rt,
+        &mut Repeat::over(Limit::over(game, n), ()),
+        store,
+        asked,
+    )
+}
+
+// A limit over the repetition rule over a limit.
+#[inline(never)]
+fn in_limit_repeat_limit<G: Game + Drop, S: Store>(
+    rt: &HostRuntime,
+    game: G,
+    (n, top): (u32, u32),
+    store: &mut S,
+    asked: Peekable<Fields<'_>>,
+) -> io::Result<()> {
+    let below = Repeat::over(Limit::over(game, n), ());
+    ask_all(rt, &mut Limit::over(below, top), store, asked)
+}
+
 // Lays rules with a limit among them over any game.
 fn under_limit<G: Game + Drop, S: Store>(
     rt: &HostRuntime,
@@ -64,37 +141,26 @@ fn under_limit<G: Game + Drop, S: Store>(
 ) -> io::Result<()> {
     let asked = case.questions;
     match case.rules {
-        Rules::Limit(n) => ask_all(rt, &mut Limit::over(game, n), store, asked),
-        Rules::LimitLimit(n, top) => {
-            ask_all(
-                rt,
-                &mut Limit::over(Limit::over(game, n), top),
-                store,
-                asked,
-            )
-        }
-        Rules::RepeatLimit(n) => {
-            ask_all(
-                rt,
-                &mut Limit::over(Repeat::over(game, ()), n),
-                store,
-                asked,
-            )
-        }
-        Rules::LimitRepeat(n) => {
-            ask_all(
-                rt,
-                &mut Repeat::over(Limit::over(game, n), ()),
-                store,
-                asked,
-            )
-        }
+        Rules::Limit(n) => in_limit(rt, game, n, store, asked),
+        Rules::LimitLimit(n, top) => in_limits(rt, game, (n, top), store, asked),
+        Rules::RepeatLimit(n) => in_repeat_limit(rt, game, n, store, asked),
+        Rules::LimitRepeat(n) => in_limit_repeat(rt, game, n, store, asked),
         Rules::LimitRepeatLimit(n, top) => {
-            let below = Repeat::over(Limit::over(game, n), ());
-            ask_all(rt, &mut Limit::over(below, top), store, asked)
+            in_limit_repeat_limit(rt, game, (n, top), store, asked)
         }
         _ => println!(rt; "{}", Trouble::NoHeight),
     }
+}
+
+// The repetition rule over a bounded game.
+#[inline(never)]
+fn in_repeat<G: Bounded + Drop, S: Store>(
+    rt: &HostRuntime,
+    game: G,
+    store: &mut S,
+    asked: Peekable<Fields<'_>>,
+) -> io::Result<()> {
+    ask_all(rt, &mut Repeat::over(game, ()), store, asked)
 }
 
 // Lays any rules over a bounded game.
@@ -106,7 +172,7 @@ fn under_rules<G: Bounded + Drop, S: Store>(
 ) -> io::Result<()> {
     match case.rules {
         Rules::Plain => ask_all(rt, &mut game, store, case.questions),
-        Rules::Repeat => ask_all(rt, &mut Repeat::over(game, ()), store, case.questions),
+        Rules::Repeat => in_repeat(rt, game, store, case.questions),
         _ => under_limit(rt, game, store, case),
     }
 }
