@@ -14,7 +14,7 @@ use search::memory::LineRecord;
 use search_method::kinds::{Answer, Pair, SolveRefusal};
 use search_method::memory::{LINES, MOVES, WorkMemory};
 use session::request::{Reply, Request};
-use session::run::in_two_sessions;
+use session::run::requests_in_two_sessions;
 use std::alloc::{AllocError, Global};
 use std::iter;
 use store::entry::Entry;
@@ -112,7 +112,7 @@ fn attempt<G: Bounded + Drop, F: Fn() -> Result<G, CardRefusal>>(
     let mut tablet: Vec<Option<Entry>> = vec![in heap; None; card.tablet() as usize]?;
     let (first, mut replies) = requests(heap, card, work, check)?;
     let (second, mut answers) = requests(heap, card, &[], check)?;
-    let (one, two) = in_two_sessions(
+    let (one, two) = requests_in_two_sessions(
         make()?,
         Table::new(&mut slots),
         &first,

@@ -1,31 +1,37 @@
--- One request more.
-use Rattle.std.proofs.Common.{◌≡◌, ℕ, ◌+◌, ◌<◌, List, [], ◌∷◌, ◌++◌, length, get_or, take, drop, set, Some, Option, sym, ap, ◌∙◌, subst₂, arith, min, drop-drop, drop-set-lt}
+-- One request more, and one exchange more.
+use Rattle.std.proofs.Common.{◌≡◌, ℕ, ◌+◌, ◌<◌, List, [], ◌∷◌, ◌++◌, length, get_or, take, drop, set, Some, Option, refl, sym, ap, ◌∙◌, subst, subst₂, arith, min, drop-drop, drop-set-lt}
 use Rattle.std.proofs.lemmas.List.{length-take, get_or-take, take_more_set}
 use Rattle.std.proofs.lemmas.Grind.{take_at_read}
+use Rattle.std.proofs.Math.Seq.{map-set_same}
 use Rattle.game.specs.Meaning.{Line, Meaning, Reachable}
 use Rattle.store.specs.Interface.{StoreMeaning}
-use Rattle.life.specs.Life.{Memory, Step, Life}
+use Rattle.life.specs.Life.{Memory, Event, Step, Life}
 use Rattle.search_method.proofs.Lending.{lent_same, lent_then}
 use Rattle.session.specs.declared.request.Request.{Request}
 use Rattle.session.specs.declared.request.Reply.{Reply}
-use Rattle.session.specs.Requests.{Desk, desk, call_of, answer_of, Leaves, Tells}
-use Rattle.session.specs.Runs.{Lived, Ran, InTurn}
+use Rattle.session.specs.declared.request.Exchange.{Exchange}
+use Rattle.session.specs.Requests.{Desk, desk, call_of, answer_of, Leaves, RequestsTold, asked, Tells}
+use Rattle.session.specs.Runs.{RequestsLived, RequestsRan, Lived, Ran, InTurn}
 
-pub lived_opened : {S : Type 0} (m : Meaning) (𝓢 : StoreMeaning S) (start : Line) (given : S) (w : Memory) (d : Desk) (l : Line) (s : S) →
-    l ≡ start → Reachable m start → 𝓢.clears given s → Lived m 𝓢 start given w d [] [] l s d
-lived_opened m 𝓢 start given w d l s at reached cleared = rw at (record { past = []; life = Life.opened reached cleared; told = Tells.nothing })
+pub requests_opened : {S : Type 0} (m : Meaning) (𝓢 : StoreMeaning S) (start : Line) (given : S) (w : Memory) (d : Desk) (l : Line) (s : S) →
+    l ≡ start → Reachable m start → 𝓢.clears given s → RequestsLived m 𝓢 start given w d [] [] l s d
+requests_opened m 𝓢 start given w d l s at reached cleared = rw at (record { past = []; life = Life.opened reached cleared; told = RequestsTold.nothing })
 
-pub lived_next : {S : Type 0} (m n : Meaning) (𝓢 : StoreMeaning S) (start : Line) (given : S) (w v : Memory) (d b c : Desk)
+-- a step of the game and with the work memory that a life began with
+step_here : {S : Type 0} (m n : Meaning) (𝓢 : StoreMeaning S) (w v : Memory) (b c : Desk) (q : Request) (r : Reply) (l k : Line) (s t : S) → n ≡ m → v ≡ w →
+    Step n 𝓢 l s (call_of v b q) (answer_of c.bytes r) k t → Step m 𝓢 l s (call_of w b q) (answer_of c.bytes r) k t
+step_here m n 𝓢 w v b c q r l k s t same_game same_memory step =
+    subst₂ (λ (x : Meaning) (u : Memory). Step x 𝓢 l s (call_of u b q) (answer_of c.bytes r) k t) same_game same_memory step
+
+pub requests_next : {S : Type 0} (m n : Meaning) (𝓢 : StoreMeaning S) (start : Line) (given : S) (w v : Memory) (d b c : Desk)
     (qs : List Request) (rs : List (Option Reply)) (q : Request) (r : Reply) (l k : Line) (s t : S) → n ≡ m → v ≡ w →
-    Lived m 𝓢 start given w d qs rs l s b → Step n 𝓢 l s (call_of v b q) (answer_of c.bytes r) k t → Leaves r b c →
-    Lived m 𝓢 start given w d (qs ++ q ∷ []) (rs ++ Some r ∷ []) k t c
-lived_next m n 𝓢 start given w v d b c qs rs q r l k s t same_game same_memory lived step leaves =
+    RequestsLived m 𝓢 start given w d qs rs l s b → Step n 𝓢 l s (call_of v b q) (answer_of c.bytes r) k t → Leaves r b c →
+    RequestsLived m 𝓢 start given w d (qs ++ q ∷ []) (rs ++ Some r ∷ []) k t c
+requests_next m n 𝓢 start given w v d b c qs rs q r l k s t same_game same_memory lived step leaves =
     record {
       past = record { line = l; call = call_of w b q; answer = answer_of c.bytes r } ∷ lived.past;
-      life =
-          Life.lived lived.life
-          (subst₂ (λ (x : Meaning) (u : Memory). Step x 𝓢 l s (call_of u b q) (answer_of c.bytes r) k t) same_game same_memory step);
-      told = Tells.then b c q r l lived.told leaves;
+      life = Life.lived lived.life (step_here m n 𝓢 w v b c q r l k s t same_game same_memory step);
+      told = RequestsTold.then b c q r l lived.told leaves;
     }
 
 -- the replies past those made stay
@@ -35,11 +41,53 @@ rest_next xs ys i r e = drop-set-lt (i + 1) xs i r (omega arith) ∙ sym (drop-d
 -- two lists made one after the other with one buffer and one work memory
 pub in_turn : {S R : Type 0} (m n : Meaning) (𝓢 : StoreMeaning S) (𝓡 : StoreMeaning R) (start other : Line) (given : S) (taken : R) (w v : Memory)
     (qs ps : List Request) (rs os : List (Option Reply)) (l k : Line) (s : S) (t : R) (before after : List ℕ) (d e : Desk) → v ≡ w → after ≡ e.bytes →
-    Ran m 𝓢 start given w qs rs l s (desk before 0) d → Ran n 𝓡 other taken v ps os k t d e →
-    InTurn (Ran m 𝓢 start given w qs rs l s) (Ran n 𝓡 other taken w ps os k t) before after
+    RequestsRan m 𝓢 start given w qs rs l s (desk before 0) d → RequestsRan n 𝓡 other taken v ps os k t d e →
+    InTurn (RequestsRan m 𝓢 start given w qs rs l s) (RequestsRan n 𝓡 other taken w ps os k t) before after
 in_turn m n 𝓢 𝓡 start other given taken w v qs ps rs os l k s t before after d e memory bytes first second =
     record { mid = d; last = e.written; earlier = first; later = rw (bytes, ← memory) second }
 
-pub ruleset lives = (lived_opened, lived_next, rest_next, length-take, get_or-take, take_at_read, take_more_set, lent_same, lent_then)
+pub ruleset request_lives = (requests_opened, requests_next, rest_next, length-take, get_or-take, take_at_read, take_more_set, lent_same, lent_then)
 
 pub ruleset together = (in_turn, lent_then)
+
+-- the exchange with this reply
+abbrev pub replied : Exchange → Reply → Exchange
+replied x r = record { request = x.request; reply = Some r }
+
+pub asked_next : (xs ys : List Exchange) (i : ℕ) (o : Exchange) (r : Reply) → asked xs ≡ asked ys → asked (set xs i (replied (get_or xs i o) r)) ≡ asked ys
+asked_next xs ys i o r e = map-set_same (λ x. x.request) xs i (replied (get_or xs i o) r) o refl ∙ e
+
+pub lived_opened : {S : Type 0} (m : Meaning) (𝓢 : StoreMeaning S) (start : Line) (given : S) (w : Memory) (d : Desk) (l : Line) (s : S) →
+    l ≡ start → Reachable m start → 𝓢.clears given s → Lived m 𝓢 start given w d [] l s d
+lived_opened m 𝓢 start given w d l s at reached cleared = rw at (record { past = []; life = Life.opened reached cleared; told = Tells.nothing })
+
+pub lived_next : {S : Type 0} (m n : Meaning) (𝓢 : StoreMeaning S) (start : Line) (given : S) (w v : Memory) (d b c : Desk)
+    (xs : List Exchange) (i : ℕ) (q : Request) (r : Reply) (l k : Line) (s t : S) → i < length xs → n ≡ m → v ≡ w →
+    Lived m 𝓢 start given w d (take i xs) l s b → Step n 𝓢 l s (call_of v b q) (answer_of c.bytes r) k t → Leaves r b c →
+    Lived m 𝓢 start given w d (take (i + 1) (set xs i (record { request = q; reply = Some r }))) k t c
+lived_next m n 𝓢 start given w v d b c xs i q r l k s t within same_game same_memory lived step leaves =
+    let event : Event = record { line = l; call = call_of w b q; answer = answer_of c.bytes r } in
+    record {
+      past = event ∷ lived.past;
+      life = Life.lived lived.life (step_here m n 𝓢 w v b c q r l k s t same_game same_memory step);
+      told =
+          subst (λ (x : List Exchange). Tells w d x (event ∷ lived.past) c) (sym (take_more_set xs i (record { request = q; reply = Some r }) within))
+          (Tells.then b c q r l lived.told leaves);
+    }
+
+-- a life with the memory and the last buffer written in another way
+pub ran_over : {S : Type 0} {m : Meaning} {𝓢 : StoreMeaning S} {start : Line} {given : S} {w v : Memory} {d : Desk} {xs : List Exchange} {l : Line}
+    {s : S} {b c : List ℕ} {n : ℕ} → c ≡ b → v ≡ w → Lived m 𝓢 start given v d xs l s (desk b n) → Lived m 𝓢 start given w d xs l s (desk c n)
+ran_over bytes memory lived = rw (bytes, ← memory) lived
+
+-- exchanges made one after the other with one buffer and one work memory
+pub exchanges_in_turn : {S R : Type 0} (m n : Meaning) (𝓢 : StoreMeaning S) (𝓡 : StoreMeaning R) (start other : Line) (given : S) (taken : R) (w v : Memory)
+    (xs ys : List Exchange) (l k : Line) (s : S) (t : R) (before after : List ℕ) (d e : Desk) → v ≡ w → after ≡ e.bytes →
+    Ran m 𝓢 start given w xs l s (desk before 0) d → Ran n 𝓡 other taken v ys k t d e →
+    InTurn (Ran m 𝓢 start given w xs l s) (Ran n 𝓡 other taken w ys k t) before after
+exchanges_in_turn m n 𝓢 𝓡 start other given taken w v xs ys l k s t before after d e memory bytes first second =
+    record { mid = d; last = e.written; earlier = first; later = record { lived = λ reached. ran_over bytes memory (second.lived reached) } }
+
+pub ruleset lives = (asked_next, lived_opened, lived_next, lent_same, lent_then)
+
+pub ruleset exchanged = (exchanges_in_turn, lent_then)

@@ -1,5 +1,5 @@
 -- What requests and replies say of calls and answers.
-use Rattle.std.specs.Prelude.{◌≡◌, ℕ, List, [], ◌∷◌, ◌++◌, take, length, Some, Option, Ok, Err}
+use Rattle.std.specs.Prelude.{◌≡◌, ℕ, List, [], ◌∷◌, ◌++◌, map, take, length, Some, Option, Ok, Err}
 use Rattle.game.specs.Meaning.{Line}
 use Rattle.game.specs.Refusals.{refusal_number}
 use Rattle.search_method.specs.declared.memory.WorkMemory.{WorkMemory}
@@ -12,6 +12,7 @@ use Rattle.session.specs.declared.request.Request.{Request}
 use Rattle.session.specs.declared.request.Request.TheVariants.{Play, TakeBack, Clear, Solve, Write, Check, CheckWritten}
 use Rattle.session.specs.declared.request.Reply.{Reply}
 use Rattle.session.specs.declared.request.Reply.TheVariants.{Done, Solved, Written, Checked}
+use Rattle.session.specs.declared.request.Exchange.{Exchange}
 
 -- the buffer that is lent to all calls, and how many of its first bytes the last write put there
 pub record Desk : Type 0 where
@@ -58,8 +59,20 @@ Leaves (Checked r) d e = e ≡ d
 
 -- What was asked and replied, in this order, is what happened, the newest first: each request has its reply, each event is
 -- the call of the request and the answer of the reply, and each call finds the buffer as the one before left it.
-pub data Tells (w : Memory) (d : Desk) : List Request → List (Option Reply) → List Event → Desk → Type 0 where
-  nothing : Tells w d [] [] [] d
+pub data RequestsTold (w : Memory) (d : Desk) : List Request → List (Option Reply) → List Event → Desk → Type 0 where
+  nothing : RequestsTold w d [] [] [] d
   then : {qs : List Request} {rs : List (Option Reply)} {past : List Event} (b c : Desk) (q : Request) (r : Reply) (l : Line) →
-      Tells w d qs rs past b → Leaves r b c →
-      Tells w d (qs ++ q ∷ []) (rs ++ Some r ∷ []) (record { line = l; call = call_of w b q; answer = answer_of c.bytes r } ∷ past) c
+      RequestsTold w d qs rs past b → Leaves r b c →
+      RequestsTold w d (qs ++ q ∷ []) (rs ++ Some r ∷ []) (record { line = l; call = call_of w b q; answer = answer_of c.bytes r } ∷ past) c
+
+-- what was asked, without the replies
+abbrev pub asked : List Exchange → List Request
+asked exchanges = map (λ x. x.request) exchanges
+
+-- The same of exchanges, each of which holds a request and its reply.
+pub data Tells (w : Memory) (d : Desk) : List Exchange → List Event → Desk → Type 0 where
+  nothing : Tells w d [] [] d
+  then : {exchanges : List Exchange} {past : List Event} (b c : Desk) (q : Request) (r : Reply) (l : Line) →
+      Tells w d exchanges past b → Leaves r b c →
+      Tells w d (exchanges ++ record { request = q; reply = Some r } ∷ [])
+      (record { line = l; call = call_of w b q; answer = answer_of c.bytes r } ∷ past) c

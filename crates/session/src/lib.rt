@@ -3,8 +3,9 @@
 // `session::Session` owns both. `open` clears the store and leaves the game at its line, `close` hands both back, and
 // `play`, `take_back`, `clear`, `solve`, `write` and `check` are the calls between, each equal to what the part that it
 // is about promises. `request::Request` and `request::Reply` are these calls and their answers as plain values, and
-// `run::in_two_sessions` opens two sessions and makes a list of requests in each. Its contract says of each that this
-// was the life of a session, as the crate `life` defines it, and it has the whole promise of any two such lives.
+// `run::requests_in_two_sessions` opens two sessions and makes a list of requests in each; `run::in_two_sessions` does so
+// with a list of `request::Exchange`s, each of which holds a request and its reply. Their contracts say of each session that
+// this was its life, as the crate `life` defines it, and have the whole promise of any two such lives.
 #![tactic(auto)]
 
 mod living;

@@ -28,3 +28,10 @@ pub enum Reply {
     Written(Result<Written, WriteRefusal>),
     Checked(Result<CheckedProof, Fault>),
 }
+
+// A request, and its reply once the call is made.
+#[derive(Drop)]
+pub struct Exchange {
+    pub request: Request,
+    pub reply: Option<Reply>,
+}

@@ -13,7 +13,7 @@ use search::memory::LineRecord;
 use search_method::kinds::{Answer, Pair};
 use search_method::memory::{LINES, MOVES, WorkMemory};
 use session::request::{Reply, Request};
-use session::run::in_two_sessions;
+use session::run::requests_in_two_sessions;
 use std::alloc::{AllocError, Global};
 use std::env;
 use store::entry::Entry;
@@ -211,7 +211,7 @@ fn two_sessions<G: Bounded + Drop, F: Fn() -> Result<G, Failure>>(
     let mut bytes: Vec<u8> = vec![in heap; 0; dice.below(60) as usize]?;
     let (list, mut replies) = random_list(heap, dice)?;
     let (more, mut answers) = random_list(heap, dice)?;
-    let (one, two) = in_two_sessions(
+    let (one, two) = requests_in_two_sessions(
         make()?,
         Table::new(&mut slots),
         &list,
