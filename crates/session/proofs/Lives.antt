@@ -13,9 +13,15 @@ use Rattle.session.specs.declared.request.Exchange.{Exchange}
 use Rattle.session.specs.Requests.{Desk, desk, call_of, answer_of, Leaves, RequestsTold, asked, Tells}
 use Rattle.session.specs.Runs.{RequestsLived, RequestsRan, Lived, Ran, InTurn}
 
+-- a life that begins at the line that a session has then
+opened_at : {S : Type 0} (m : Meaning) (𝓢 : StoreMeaning S) (start : Line) (given : S) (l : Line) (s : S) →
+    l ≡ start → Reachable m start → 𝓢.clears given s → Life m 𝓢 start given [] l s
+opened_at m 𝓢 start given l s at reached cleared = rw at (Life.opened reached cleared)
+
 pub requests_opened : {S : Type 0} (m : Meaning) (𝓢 : StoreMeaning S) (start : Line) (given : S) (w : Memory) (d : Desk) (l : Line) (s : S) →
     l ≡ start → Reachable m start → 𝓢.clears given s → RequestsLived m 𝓢 start given w d [] [] l s d
-requests_opened m 𝓢 start given w d l s at reached cleared = rw at (record { past = []; life = Life.opened reached cleared; told = RequestsTold.nothing })
+requests_opened m 𝓢 start given w d l s at reached cleared =
+    record { past = []; life = opened_at m 𝓢 start given l s at reached cleared; told = RequestsTold.nothing }
 
 -- a step of the game and with the work memory that a life began with
 step_here : {S : Type 0} (m n : Meaning) (𝓢 : StoreMeaning S) (w v : Memory) (b c : Desk) (q : Request) (r : Reply) (l k : Line) (s t : S) → n ≡ m → v ≡ w →
@@ -38,13 +44,23 @@ requests_next m n 𝓢 start given w v d b c qs rs q r l k s t same_game same_me
 pub rest_next : (xs ys : List (Option Reply)) (i : ℕ) (r : Option Reply) → drop i xs ≡ drop i ys → drop (i + 1) (set xs i r) ≡ drop (i + 1) ys
 rest_next xs ys i r e = drop-set-lt (i + 1) xs i r (omega arith) ∙ sym (drop-drop 1 i xs) ∙ ap (drop 1) e ∙ drop-drop 1 i ys
 
+-- what holds of a work memory and a desk holds of them written in another way
+over_desk : (holds : Memory → Desk → Type 0) (w v : Memory) (b c : List ℕ) (n : ℕ) → c ≡ b → v ≡ w → holds v (desk b n) → holds w (desk c n)
+over_desk holds w v b c n bytes memory it = subst₂ (λ (u : Memory) (x : List ℕ). holds u (desk x n)) memory (sym bytes) it
+
+-- what is made over a desk, and what is made after it with the rows that came back, and with the buffer as the last desk has it
+turned : (first : Desk → Desk → Type 0) (second : Memory → Desk → Desk → Type 0) (w v : Memory) (before after : List ℕ) (d e : Desk) → v ≡ w → after ≡ e.bytes →
+    first (desk before 0) d → second v d e → InTurn first (second w) before after
+turned first second w v before after d e memory bytes one two =
+    record { mid = d; last = e.written; earlier = one; later = over_desk (λ u x. second u d x) w v e.bytes after e.written bytes memory two }
+
 -- two lists made one after the other with one buffer and one work memory
 pub in_turn : {S R : Type 0} (m n : Meaning) (𝓢 : StoreMeaning S) (𝓡 : StoreMeaning R) (start other : Line) (given : S) (taken : R) (w v : Memory)
     (qs ps : List Request) (rs os : List (Option Reply)) (l k : Line) (s : S) (t : R) (before after : List ℕ) (d e : Desk) → v ≡ w → after ≡ e.bytes →
     RequestsRan m 𝓢 start given w qs rs l s (desk before 0) d → RequestsRan n 𝓡 other taken v ps os k t d e →
     InTurn (RequestsRan m 𝓢 start given w qs rs l s) (RequestsRan n 𝓡 other taken w ps os k t) before after
 in_turn m n 𝓢 𝓡 start other given taken w v qs ps rs os l k s t before after d e memory bytes first second =
-    record { mid = d; last = e.written; earlier = first; later = rw (bytes, ← memory) second }
+    turned (RequestsRan m 𝓢 start given w qs rs l s) (λ u. RequestsRan n 𝓡 other taken u ps os k t) w v before after d e memory bytes first second
 
 pub ruleset request_lives = (requests_opened, requests_next, rest_next, length-take, get_or-take, take_at_read, take_more_set, lent_same, lent_then)
 
@@ -59,7 +75,7 @@ asked_next xs ys i o r e = map-set_same (λ x. x.request) xs i (replied (get_or 
 
 pub lived_opened : {S : Type 0} (m : Meaning) (𝓢 : StoreMeaning S) (start : Line) (given : S) (w : Memory) (d : Desk) (l : Line) (s : S) →
     l ≡ start → Reachable m start → 𝓢.clears given s → Lived m 𝓢 start given w d [] l s d
-lived_opened m 𝓢 start given w d l s at reached cleared = rw at (record { past = []; life = Life.opened reached cleared; told = Tells.nothing })
+lived_opened m 𝓢 start given w d l s at reached cleared = record { past = []; life = opened_at m 𝓢 start given l s at reached cleared; told = Tells.nothing }
 
 pub lived_next : {S : Type 0} (m n : Meaning) (𝓢 : StoreMeaning S) (start : Line) (given : S) (w v : Memory) (d b c : Desk)
     (xs : List Exchange) (i : ℕ) (q : Request) (r : Reply) (l k : Line) (s t : S) → i < length xs → n ≡ m → v ≡ w →
@@ -78,7 +94,8 @@ lived_next m n 𝓢 start given w v d b c xs i q r l k s t within same_game same
 -- a life with the memory and the last buffer written in another way
 pub ran_over : {S : Type 0} {m : Meaning} {𝓢 : StoreMeaning S} {start : Line} {given : S} {w v : Memory} {d : Desk} {xs : List Exchange} {l : Line}
     {s : S} {b c : List ℕ} {n : ℕ} → c ≡ b → v ≡ w → Lived m 𝓢 start given v d xs l s (desk b n) → Lived m 𝓢 start given w d xs l s (desk c n)
-ran_over bytes memory lived = rw (bytes, ← memory) lived
+ran_over {m = m} {𝓢 = 𝓢} {start = start} {given = given} {w = w} {v = v} {d = d} {xs = xs} {l = l} {s = s} {b = b} {c = c} {n = n} bytes memory lived =
+    over_desk (λ u e. Lived m 𝓢 start given u d xs l s e) w v b c n bytes memory lived
 
 -- exchanges made one after the other with one buffer and one work memory
 pub exchanges_in_turn : {S R : Type 0} (m n : Meaning) (𝓢 : StoreMeaning S) (𝓡 : StoreMeaning R) (start other : Line) (given : S) (taken : R) (w v : Memory)
@@ -86,7 +103,7 @@ pub exchanges_in_turn : {S R : Type 0} (m n : Meaning) (𝓢 : StoreMeaning S) (
     Ran m 𝓢 start given w xs l s (desk before 0) d → Ran n 𝓡 other taken v ys k t d e →
     InTurn (Ran m 𝓢 start given w xs l s) (Ran n 𝓡 other taken w ys k t) before after
 exchanges_in_turn m n 𝓢 𝓡 start other given taken w v xs ys l k s t before after d e memory bytes first second =
-    record { mid = d; last = e.written; earlier = first; later = record { lived = λ reached. ran_over bytes memory (second.lived reached) } }
+    turned (Ran m 𝓢 start given w xs l s) (λ u. Ran n 𝓡 other taken u ys k t) w v before after d e memory bytes first second
 
 pub ruleset lives = (asked_next, lived_opened, lived_next, lent_same, lent_then)
 

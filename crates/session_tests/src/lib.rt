@@ -10,7 +10,7 @@ mod tests {
     use layers::limit::Limit;
     use layers::repeat::Repeat;
     use search::memory::LineRecord;
-    use search_method::kinds::{Answer, Pair, SolveRefusal};
+    use search_method::kinds::{Answer, Pair};
     use search_method::memory::WorkMemory;
     use session::request::{Exchange, Reply, Request};
     use session::run::in_two_sessions;
